@@ -1,0 +1,6 @@
+//! Lists that contracts see as lists.
+#![tactic(auto)]
+
+mod items;
+
+pub use items::Items;

@@ -1,0 +1,20 @@
+pub mod Ring
+pub mod Quotients
+pub mod CheckedLemmas
+pub mod SumLemmas
+pub mod Partials
+pub mod Fronts
+pub mod Digits
+pub mod Kept
+pub mod Meant
+pub mod DecimalSteps
+pub mod Spelt
+pub mod Apart
+pub mod ValueLaw
+pub mod Padded
+pub mod Scaled
+pub mod Written
+pub mod Readings
+pub mod Roundings
+pub mod Powers
+mod WorkedNumbers
