@@ -1,0 +1,15 @@
+pub mod PerName
+pub mod Places
+pub mod RowLines
+pub mod Shapes
+pub mod Grids
+pub mod GivenLines
+pub mod Walks
+pub mod Lists
+pub mod Coherent
+pub mod Small
+pub mod CoherentColumns
+pub mod CoherentLines
+pub mod Programs
+pub mod Made
+pub mod SectionLaw

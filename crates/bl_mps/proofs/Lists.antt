@@ -1,0 +1,112 @@
+-- What is kept for each name, when one more number or card comes.
+use Rattle.std.proofs.Common.{◌≡◌, ℕ, ◌+◌, Bool, true, false, cond, ◌&&◌, List, [], ◌∷◌, ◌++◌, map, length, get_or, set, replicate, Option, Some, None, refl, sym, ap, ◌∙◌}
+use Rattle.std.specs.Prelude.{filter, not, nat_eq, nat_abs}
+use Rattle.std.specs.Cmp.Lexicographic.{bytes_decides}
+use Rattle.std.proofs.lemmas.List.{map-append, replicate-append-replicate}
+use Rattle.std.proofs.lemmas.List.Elements.{filter-append}
+use Rattle.std.proofs.lemmas.List.Sums.{fold_push}
+use Rattle.bl_problem.specs.declared.problem.Term.{Term}
+use Rattle.bl_mps.specs.declared.kind.Ends.{Ends}
+use Rattle.bl_mps.specs.Said.{same, place_of, Differ, Cell, Card}
+use Rattle.bl_mps.specs.Meaning.{terms_of, term_of, cells_of, cards_of, carded, ends_set, acted, unset, ends_or}
+use Rattle.bl_mps.proofs.PerName.{written_at, read_at, map_same, same_turned}
+
+append_nothing : {A : Type 0} (xs : List A) → xs ++ [] ≡ xs
+append_nothing [] = refl
+append_nothing (x ∷ xs) = ap (λ (ys : List _). x ∷ ys) (append_nothing xs)
+
+pub same_self : (a : List ℕ) → same a a ≡ true
+same_self a = (bytes_decides a a).1 refl
+
+-- ---- terms
+
+abbrev counts : List ℕ → Cell → Bool
+counts row c = same row c.row && not (nat_eq (nat_abs c.number) 0)
+
+one_more : (t : Bool) (xs : List Term) (c : Cell) → xs ++ map term_of (cond t (c ∷ []) []) ≡ cond t (xs ++ term_of c ∷ []) xs
+one_more true xs c = refl
+one_more false xs c = append_nothing xs
+
+-- a number puts a term behind those of its row, if it counts
+pub terms_push : (cells : List Cell) (c : Cell) (row : List ℕ) → terms_of (cells ++ c ∷ []) row ≡ cond (counts row c) (terms_of cells row ++ term_of c ∷ []) (terms_of cells row)
+terms_push cells c row =
+    ap (map term_of) (filter-append (counts row) cells (c ∷ []))
+    ∙ map-append term_of (cells_of cells row) (filter (counts row) (c ∷ []))
+    ∙ one_more (counts row c) (terms_of cells row) c
+
+and_false : (a : Bool) → (a && false) ≡ false
+and_false true = refl
+and_false false = refl
+
+-- a zero changes nothing
+pub terms_zero : (names : List (List ℕ)) (cells : List Cell) (c : Cell) → nat_eq (nat_abs c.number) 0 ≡ true → map (terms_of cells) names ≡ map (terms_of (cells ++ c ∷ [])) names
+terms_zero [] cells c z = refl
+terms_zero (n ∷ names) cells c z =
+    let e : terms_of (cells ++ c ∷ []) n ≡ terms_of cells n = terms_push cells c n ∙ rw (z, and_false (same n c.row)) refl in
+    rw (e, ← (terms_zero names cells c z)) refl
+
+others : (cells : List Cell) (c : Cell) (m : List ℕ) → same c.row m ≡ false → terms_of (cells ++ c ∷ []) m ≡ terms_of cells m
+others cells c m e = terms_push cells c m ∙ rw (same_turned c.row m e) refl
+
+-- so does a number of a row that is none of these
+pub terms_unknown : (names : List (List ℕ)) (cells : List Cell) (c : Cell) → place_of names c.row ≡ None → map (terms_of cells) names ≡ map (terms_of (cells ++ c ∷ [])) names
+terms_unknown names cells c e = map_same names c.row (terms_of cells) (terms_of (cells ++ c ∷ [])) e (others cells c)
+
+-- another number puts its term at its row's place
+pub terms_put : (names : List (List ℕ)) (cells : List Cell) (c : Cell) (i : ℕ) (lists : List (List Term)) (now new : List Term) → Differ names → place_of names c.row ≡ Some i → nat_eq (nat_abs c.number) 0 ≡ false
+    → lists ≡ map (terms_of cells) names → now ≡ get_or lists i now → new ≡ now ++ term_of c ∷ [] → set lists i new ≡ map (terms_of (cells ++ c ∷ [])) names
+terms_put names cells c i lists now new d e z h n p =
+    let here : terms_of (cells ++ c ∷ []) c.row ≡ new =
+    terms_push cells c c.row ∙ rw (same_self c.row, z) (ap (λ (ts : List Term). ts ++ term_of c ∷ []) (sym (n ∙ rw h (read_at names c.row i (terms_of cells) now e))) ∙ sym p) in
+    rw (h, ← here) (written_at names c.row i (terms_of cells) (terms_of (cells ++ c ∷ [])) d e (others cells c))
+
+-- ---- cards
+
+one_card : (t : Bool) (xs : List Card) (c : Card) → xs ++ cond t (c ∷ []) [] ≡ cond t (xs ++ c ∷ []) xs
+one_card true xs c = refl
+one_card false xs c = append_nothing xs
+
+pub cards_push : (cards : List Card) (c : Card) (column : List ℕ) → cards_of (cards ++ c ∷ []) column ≡ cond (same column c.column) (cards_of cards column ++ c ∷ []) (cards_of cards column)
+cards_push cards c column =
+    filter-append (λ (d : Card). same column d.column) cards (c ∷ []) ∙ one_card (same column c.column) (cards_of cards column) c
+
+pub carded_push : (cards : List Card) (c : Card) → carded (cards ++ c ∷ []) ≡ Some (acted (ends_or unset (carded cards)) c)
+carded_push [] c = refl
+carded_push (d ∷ cards) c = ap (λ (e : Ends). Some e) (fold_push acted unset (d ∷ cards) c)
+
+other_cards : (cards : List Card) (c : Card) (m : List ℕ) → same c.column m ≡ false → ends_set (cards ++ c ∷ []) m ≡ ends_set cards m
+other_cards cards c m e = ap carded (cards_push cards c m ∙ rw (same_turned c.column m e) refl)
+
+pub ends_unknown : (names : List (List ℕ)) (cards : List Card) (c : Card) → place_of names c.column ≡ None → map (ends_set cards) names ≡ map (ends_set (cards ++ c ∷ [])) names
+ends_unknown names cards c e = map_same names c.column (ends_set cards) (ends_set (cards ++ c ∷ [])) e (other_cards cards c)
+
+-- a card sets the end of its column
+pub ends_put : (names : List (List ℕ)) (cards : List Card) (c : Card) (i : ℕ) (ends : List (Option Ends)) (d : Option Ends) (new : Ends) → Differ names → place_of names c.column ≡ Some i
+    → ends ≡ map (ends_set cards) names → new ≡ acted (ends_or unset (get_or ends i d)) c → set ends i (Some new) ≡ map (ends_set (cards ++ c ∷ [])) names
+ends_put names cards c i ends d new differ e h p =
+    let old : get_or ends i d ≡ ends_set cards c.column = rw h (read_at names c.column i (ends_set cards) d e) in
+    let here : ends_set (cards ++ c ∷ []) c.column ≡ Some new =
+    ap carded (cards_push cards c c.column ∙ rw (same_self c.column) refl) ∙ carded_push (cards_of cards c.column) c ∙ rw (p, old) refl in
+    rw (h, ← here) (written_at names c.column i (ends_set cards) (ends_set (cards ++ c ∷ [])) differ e (other_cards cards c))
+
+-- ---- the first ones
+
+pub same_each : {A B : Type 0} (a : B) (xs : List A) → map (λ x. a) xs ≡ replicate (length xs) a
+same_each a [] = refl
+same_each a (x ∷ xs) = ap (λ (ys : List _). a ∷ ys) (same_each a xs)
+
+pub replicate_more : {A : Type 0} (n : ℕ) (a : A) → replicate (n + 1) a ≡ replicate n a ++ a ∷ []
+replicate_more n a = sym (replicate-append-replicate n 1 a)
+
+-- ---- the term of a number
+
+abbrev term_by : Bool → Term → Option Term
+term_by t x = cond t None (Some x)
+
+pub no_term : (t : Bool) (x : Term) → term_by t x ≡ None → t ≡ true
+no_term true x e = refl
+no_term false x e = absurd cc
+
+pub a_term : (t : Bool) (x y : Term) → term_by t x ≡ Some y → (t ≡ false) × (x ≡ y)
+a_term true x y e = absurd cc
+a_term false x y e = (refl, cc)

@@ -1,0 +1,64 @@
+-- Rows kept as names and roles.
+use Rattle.std.proofs.Common.{◌≡◌, ℕ, zero, suc, ◌<◌, Bool, true, false, cond, List, [], ◌∷◌, ◌++◌, map, length, get_or, Option, Some, None, refl, sym, ap, ◌∙◌, arith}
+use Rattle.std.specs.Prelude.{option_map, ◌==◌}
+use Rattle.bl_mps.specs.declared.kind.Role.{Role}
+use Rattle.bl_mps.specs.Said.{same, place_of, RowLine}
+use Rattle.bl_mps.specs.Lines.{role_of, is_first}
+use Rattle.bl_mps.specs.Views.{row_lines}
+use Rattle.std.proofs.lemmas.Bool.Decides.{nat_tests}
+
+abbrev pub row : List ℕ → Role → RowLine
+row n r = record { name = n; role = r }
+
+lookup_by : (t : Bool) (r : Role) (o : Option ℕ) (roles : List Role) (d : Role) → cond t (Some r) (option_map (λ i. get_or roles i d) o) ≡ option_map (λ i. get_or (r ∷ roles) i d) (cond t (Some 0) (option_map suc o))
+lookup_by true r o roles d = refl
+lookup_by false r None roles d = refl
+lookup_by false r (Some i) roles d = refl
+
+-- a row's role stands at its name's place
+pub role_found : (names : List (List ℕ)) (roles : List Role) (name : List ℕ) (d : Role) → length roles ≡ length names → role_of (row_lines names roles) name ≡ option_map (λ i. get_or roles i d) (place_of names name)
+role_found [] roles name d e = refl
+role_found (n ∷ names) [] name d e = absurd (omega arith)
+role_found (n ∷ names) (r ∷ roles) name d e =
+    ap (λ (o : Option Role). cond (same name n) (Some r) o) (role_found names roles name d (omega arith)) ∙ lookup_by (same name n) r (place_of names name) roles d
+
+pub no_role : (names : List (List ℕ)) (roles : List Role) (name : List ℕ) (d : Role) → length roles ≡ length names → role_of (row_lines names roles) name ≡ None → place_of names name ≡ None
+no_role names roles name d e h = from (place_of names name) (sym (role_found names roles name d e) ∙ h) where
+  from : (o : Option ℕ) → option_map (λ i. get_or roles i d) o ≡ None → o ≡ None
+  from None e = refl
+  from (Some i) e = absurd cc
+
+pub pushed : (names : List (List ℕ)) (roles : List Role) (n : List ℕ) (r : Role) → length roles ≡ length names → row_lines (names ++ n ∷ []) (roles ++ r ∷ []) ≡ row_lines names roles ++ row n r ∷ []
+pushed [] [] n r e = refl
+pushed [] (x ∷ roles) n r e = absurd (omega arith)
+pushed (m ∷ names) [] n r e = absurd (omega arith)
+pushed (m ∷ names) (x ∷ roles) n r e = ap (λ (rows : List RowLine). row m x ∷ rows) (pushed names roles n r (omega arith))
+
+pub lines_push : (names names' : List (List ℕ)) (roles roles' : List Role) (n : List ℕ) (r : Role) → length roles ≡ length names → names' ≡ names ++ n ∷ [] → roles' ≡ roles ++ r ∷ []
+    → row_lines names' roles' ≡ row_lines names roles ++ row n r ∷ []
+lines_push names names' roles roles' n r e f g = rw (f, g) (pushed names roles n r e)
+
+pub count_lines : (names : List (List ℕ)) (roles : List Role) → length roles ≡ length names → length (row_lines names roles) ≡ length names
+count_lines [] roles e = refl
+count_lines (n ∷ names) [] e = absurd (omega arith)
+count_lines (n ∷ names) (r ∷ roles) e = ap suc (count_lines names roles (omega arith))
+
+-- the first row is still to come where there is no name
+pub first_is : (names : List (List ℕ)) (roles : List Role) → length roles ≡ length names → is_first (row_lines names roles) ≡ (length names == 0)
+first_is [] [] e = refl
+first_is [] (r ∷ roles) e = absurd (omega arith)
+first_is (n ∷ names) [] e = absurd (omega arith)
+first_is (n ∷ names) (r ∷ roles) e = grind (arith, nat_tests)
+
+pub names_are : (names : List (List ℕ)) (roles : List Role) → length roles ≡ length names → map (λ (r : RowLine). r.name) (row_lines names roles) ≡ names
+names_are [] roles e = refl
+names_are (n ∷ names) [] e = absurd (omega arith)
+names_are (n ∷ names) (r ∷ roles) e = ap (λ (ns : List (List ℕ)). n ∷ ns) (names_are names roles (omega arith))
+
+-- the row at a place has the name and the role of that place
+pub line_at : (names : List (List ℕ)) (roles : List Role) (i : ℕ) (d : RowLine) (r : Role) → length roles ≡ length names → i < length names
+    → ((get_or (row_lines names roles) i d).name ≡ get_or names i []) × ((get_or (row_lines names roles) i d).role ≡ get_or roles i r)
+line_at [] roles i d r e l = absurd (omega arith)
+line_at (n ∷ names) [] i d r e l = absurd (omega arith)
+line_at (n ∷ names) (x ∷ roles) zero d r e l = (refl, refl)
+line_at (n ∷ names) (x ∷ roles) (suc i) d r e l = line_at names roles i d r (omega arith) (omega arith)

@@ -1,0 +1,16 @@
+use Rattle.std.proofs.Common.{◌≡◌, ◌∙◌, sym, ap, arith, length, ◌∷◌, [], map, ◌+◌, ◌-◌}
+use Rattle.std.proofs.lemmas.List.{length-append}
+use Rattle.bl_mps.specs.Views.{cell_of, rows_in}
+use Rattle.bl_mps.proofs.Grids.{rows_in-none}
+use Rattle.bl_mps.proofs.columns.Columns.start.Goals as goal
+
+pub invariant_of-self-in-None-2 : goal.invariant_of-self-in-None-2
+invariant_of-self-in-None-2 c =
+    let cells = map cell_of c.self.inside.cells.items in
+    let n : length c.add.new.self ≡ length c.self.inside.names + 1 = ap length c.in_ok-add-in-None-2.ensures.ok ∙ length-append c.self.inside.names (c.args.name.now ∷ []) in
+    let last : length c.add.new.self - 1 ≡ length c.self.inside.names = omega (arith, n) in
+    record {
+      few = omega (arith, n);
+      within = λ i d l. let h = c.self.invariant.within i d l in omega (arith, n, h);
+      here_is = c.clear.ensures ∙ sym (ap (rows_in cells) last ∙ rows_in-none cells (length c.self.inside.names) c.self.invariant.within);
+    }

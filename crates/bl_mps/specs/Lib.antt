@@ -1,0 +1,7 @@
+pub mod Said
+pub mod Lines
+pub mod Meaning
+pub mod Reading
+pub mod Coherence
+pub mod Sections
+pub mod Views

@@ -1,0 +1,171 @@
+//! The reader, which takes the lines of a file in turn.
+ghost use Rattle.std.specs.Prelude.{◌≡◌, ◌<◌, ◌^◌, map, length, IfOk};
+ghost use Rattle.bl_text.specs.Pieces.{lines_of, words_of};
+ghost use Rattle.bl_mps.specs.Said.{nothing_said};
+ghost use Rattle.bl_mps.specs.Lines.{data_line, section_line};
+ghost use Rattle.bl_mps.specs.Reading.{after_line, said_from, spoken, is_end};
+ghost use Rattle.bl_mps.specs.Views.{Follows};
+
+use crate::bounds::Bounds;
+use crate::columns::Columns;
+use crate::fault::ModelFault;
+use crate::kind::Section;
+use crate::rhs::RightSides;
+use crate::rows::Rows;
+use crate::section::{is_end, may_follow, section_of};
+use bl_text::{is_blank, lines, words};
+use std::alloc::{AllocError, Global};
+use std::marker::Model;
+
+/// What a file has said so far.
+#[derive(Drop)]
+pub struct Reader<'a> {
+    section: Section,
+    rows: Rows<'a>,
+    columns: Columns<'a>,
+    rhs: RightSides<'a>,
+    bounds: Bounds<'a>,
+}
+
+impl<'a> Model for Reader<'a> {
+    ghost use Rattle.bl_mps.specs.Said.{Said};
+
+    ghost Value = { Said };
+
+    ghost view = { λ r. record { section = r.section; rows = r.rows; columns = r.columns; rhs = r.rhs; bounds = r.bounds } };
+}
+
+/// The words of a line, in order.
+fn all_words<'a>(alloc: Global, line: &'a [u8]) -> Result<Vec<&'a [u8]>, AllocError>
+    ensures { IfOk result (λ all. map (λ w. w.now) all.items ≡ words_of line.now) }
+{
+    let mut all = Vec::new(alloc);
+    for word in words(line) {
+        all.push(word)?;
+    }
+    Ok(all)
+}
+
+impl<'a> Reader<'a> {
+    /// Nothing is said. Takes no memory.
+    pub fn new(alloc: Global) -> Reader<'a>
+        ensures { result ≡ nothing_said }
+    {
+        Reader {
+            section: Section::Start,
+            rows: Rows::new(alloc),
+            columns: Columns::new(alloc),
+            rhs: RightSides::new(alloc),
+            bounds: Bounds::new(alloc),
+        }
+    }
+
+    pub fn rows(&self) -> &Rows<'a>
+        ensures { result.now ≡ self.now.rows }
+    {
+        &self.rows
+    }
+
+    pub fn columns(&self) -> &Columns<'a>
+        ensures { result.now ≡ self.now.columns }
+    {
+        &self.columns
+    }
+
+    pub fn rhs(&self) -> &RightSides<'a>
+        ensures { result.now ≡ self.now.rhs }
+    {
+        &self.rhs
+    }
+
+    pub fn bounds(&self) -> &Bounds<'a>
+        ensures { result.now ≡ self.now.bounds }
+    {
+        &self.bounds
+    }
+
+    /// Whether the ENDATA line was taken.
+    fn is_done(&self) -> bool
+        ensures { result ≡ is_end self.now.section }
+    {
+        is_end(self.section)
+    }
+
+    /// Takes the words of a data line of the section that is open.
+    fn data_line(&mut self, words: &[&'a [u8]]) -> Result<(), ModelFault>
+        ensures { Follows result (data_line self.old.section self.old (map (λ w. w.now) words.now)) self.new }
+    {
+        match self.section {
+            Section::Start | Section::Name | Section::End => Err(ModelFault::Unbuilt),
+            Section::Rows => self.rows.line(words),
+            Section::Columns => self.columns.line(&self.rows, words),
+            Section::Rhs => self.rhs.line(&self.rows, words),
+            Section::Bounds => self.bounds.line(self.columns.names(), words),
+        }
+    }
+
+    /// Opens the section that a section line names.
+    fn section_line(&mut self, word: &[u8]) -> Result<(), ModelFault>
+        ensures { Follows result (section_line self.old word.now) self.new }
+    {
+        match section_of(word) {
+            Some(next) if may_follow(self.section, next) => {
+                self.section = next;
+                Ok(())
+            }
+            _ => Err(ModelFault::Unbuilt),
+        }
+    }
+
+    /// Takes the words of a line that is no comment.
+    fn spoken(&mut self, is_data: bool, words: &[&'a [u8]]) -> Result<(), ModelFault>
+        ensures { Follows result (spoken self.old is_data (map (λ w. w.now) words.now)) self.new }
+    {
+        match words {
+            [] => Ok(()),
+            [word, ..] => {
+                if is_data {
+                    self.data_line(words)
+                } else {
+                    self.section_line(word)
+                }
+            }
+        }
+    }
+
+    /// Takes a line.
+    #[tactic(auto, unfolding(crate::specs::Reading::after_line))]
+    fn line(&mut self, alloc: Global, line: &'a [u8]) -> Result<(), ModelFault>
+        ensures { Follows result (after_line self.old line.now) self.new }
+    {
+        match line {
+            [] | [b'*', ..] => Ok(()),
+            [first, ..] => {
+                let words = all_words(alloc, line)?;
+                self.spoken(is_blank(*first), &words)
+            }
+        }
+    }
+
+    /// Takes the lines of a file, up to the ENDATA line or to the first line that breaks a rule.
+    pub fn file(&mut self, alloc: Global, bytes: &'a [u8]) -> Result<(), ModelFault>
+        requires { length bytes.now < 2 ^ 32 }
+        ensures { Follows result (said_from self.old (lines_of bytes.now)) self.new }
+    {
+        let mut walk = lines(bytes);
+        while let Some(line) = walk.next() {
+            if self.is_done() {
+                return Ok(());
+            }
+            match self.line(alloc, line.bytes) {
+                Ok(()) => {}
+                Err(fault) => return Err(fault),
+            }
+        }
+        if self.is_done() {
+            Ok(())
+        } else {
+            Err(ModelFault::Unbuilt)
+        }
+    }
+}

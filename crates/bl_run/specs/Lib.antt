@@ -1,0 +1,4 @@
+pub mod Numbering
+pub mod Answers
+pub mod Texts
+pub mod Runs
