@@ -130,7 +130,10 @@ pub fn saturating_sub(a: Fixed, b: Fixed) -> Fixed
 pub fn saturating_mul(a: Fixed, b: Fixed) -> Fixed
     ensures { result ≡ saturated_product a b }
 {
-    mul(a, b).unwrap_or(end_by_signs(a, b))
+    match mul(a, b) {
+        Some(product) => product,
+        None => end_by_signs(a, b),
+    }
 }
 
 /// What `div` gives, or where that is None the end of `i128` nearest to the exact quotient.
@@ -139,7 +142,10 @@ pub fn saturating_div(a: Fixed, b: Fixed) -> Fixed
     requires { b.raw ≢ pos 0 }
     ensures { result ≡ saturated_quotient a b }
 {
-    div(a, b).unwrap_or(end_by_signs(a, b))
+    match div(a, b) {
+        Some(quotient) => quotient,
+        None => end_by_signs(a, b),
+    }
 }
 
 // The end of `i128` on the side of the product and the quotient.

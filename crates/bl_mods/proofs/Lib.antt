@@ -1,0 +1,9 @@
+pub mod Differences
+pub mod Relisting
+pub mod RisingLemmas
+pub mod Keeping
+pub mod Writing
+pub mod Diffing
+pub mod Going
+pub mod Overlays
+pub mod InTurn

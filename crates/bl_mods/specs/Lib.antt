@@ -1,0 +1,3 @@
+pub mod InTurn
+pub mod Mods
+pub mod Rising

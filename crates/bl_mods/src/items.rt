@@ -1,8 +1,9 @@
-//! A list, which contracts see as the list of its elements.
-ghost use Rattle.std.specs.Prelude.{◌≡◌, [], ◌∷◌, ◌++◌, length, OnErr, OnOk, IsTrue, ◌↔◌};
+//! A list and a shared value, which contracts see as the list of its elements and as the value.
+ghost use Rattle.std.specs.Prelude.{◌≡◌, ◌<◌, [], ◌∷◌, ◌++◌, length, slice_set, OnErr, OnOk, IfOk, IsTrue, ◌↔◌};
 
 use std::alloc::{AllocError, Global};
 use std::marker::Model;
+use std::sync::Arc;
 
 /// A list. Contracts see its elements, so that a struct which holds one compares with plain lists.
 #[derive(Drop)]
@@ -60,6 +61,21 @@ impl<T> Items<T> {
         Ok(())
     }
 
+    /// Writes one element. Takes no memory.
+    pub fn set(&mut self, place: usize, element: T)
+    where
+        T: Drop,
+        requires { place < length self.old }
+        ensures { self.new ≡ slice_set self.old place element }
+    {
+        self.elements[place] = element;
+    }
+
+    /// The allocator.
+    pub fn allocator(&self) -> Global {
+        *self.elements.allocator()
+    }
+
     /// How many elements there are.
     pub fn len(&self) -> usize
         ensures { result ≡ length self.now }
@@ -72,5 +88,91 @@ impl<T> Items<T> {
         ensures { IsTrue result ↔ (self.now ≡ []) }
     {
         self.elements.is_empty()
+    }
+}
+
+/// A value of which another equal one can be had.
+pub trait Duplicate {
+    /// An equal value. `AllocError` where it can't be had.
+    fn duplicate(&self) -> Result<Self, AllocError>
+        ensures { IfOk result (λ copy. copy ≡ self.now) };
+}
+
+impl Duplicate for i64 {
+    fn duplicate(&self) -> Result<i64, AllocError> {
+        Ok(*self)
+    }
+}
+
+impl<C> Duplicate for Shared<C> {
+    fn duplicate(&self) -> Result<Shared<C>, AllocError> {
+        self.share()
+    }
+}
+
+impl<T: Duplicate + Drop> Items<T> {
+    /// Appends equal elements. `AllocError` where there is no memory; the list then has some of them.
+    pub fn extend(&mut self, elements: &[T]) -> Result<(), AllocError>
+        ensures { OnOk result (self.new ≡ self.old ++ elements.now) }
+    {
+        for element in elements {
+            self.push(element.duplicate()?)?;
+        }
+        Ok(())
+    }
+
+    /// An equal list. `AllocError` where there is no memory.
+    pub fn duplicate_all(&self) -> Result<Items<T>, AllocError>
+        ensures { IfOk result (λ copy. copy ≡ self.now) }
+    {
+        let mut copy = Items::new(self.allocator());
+        copy.extend(self.as_slice())?;
+        Ok(copy)
+    }
+}
+
+/// A value that several owners share. Contracts see the value.
+#[derive(Drop)]
+pub struct Shared<C> {
+    owner: Arc<C>,
+}
+
+impl<C> Model for Shared<C> {
+    ghost Value = { C };
+
+    ghost view = { λ s. s.owner.value };
+}
+
+impl<C> Shared<C> {
+    /// Puts the value where it can be shared. `AllocError` where there is no memory.
+    pub fn new(alloc: Global, value: C) -> Result<Shared<C>, AllocError>
+    where
+        C: Drop,
+        ensures { IfOk result (λ s. s ≡ value) }
+    {
+        let owner = Arc::new(alloc, value)?;
+        Ok(Shared { owner })
+    }
+
+    /// The value that this owner shares. Takes no memory.
+    pub fn from_arc(owner: Arc<C>) -> Shared<C>
+        ensures { result ≡ owner.value }
+    {
+        Shared { owner }
+    }
+
+    /// The value.
+    pub fn get(&self) -> &C
+        ensures { result.now ≡ self.now }
+    {
+        &self.owner
+    }
+
+    /// Another owner of the value. `AllocError` where the count of owners can't grow.
+    pub fn share(&self) -> Result<Shared<C>, AllocError>
+        ensures { IfOk result (λ s. s ≡ self.now) }
+    {
+        let owner = Arc::try_clone(&self.owner)?;
+        Ok(Shared { owner })
     }
 }

@@ -1,9 +1,11 @@
 -- The rows of the last column, by name.
-use Rattle.std.proofs.Common.{◌≡◌, ℕ, suc, ◌-◌, ◌<◌, Bool, true, false, cond, ◌&&◌, ◌||◌, List, [], ◌∷◌, ◌++◌, map, length, All, Option, Some, None, refl, sym, ap, ◌∙◌, arith, ℤ}
+use Rattle.std.proofs.Common.{Ok, Err, ◌≡◌, ℕ, suc, ◌-◌, ◌<◌, Bool, true, false, cond, ◌&&◌, ◌||◌, List, [], ◌∷◌, ◌++◌, map, length, All, Option, Some, None, refl, sym, ap, ◌∙◌, arith}
 use Rattle.std.specs.Prelude.{option_map, is_some, filter, ◌==◌}
 use Rattle.std.proofs.lemmas.Bool.Decides.{nat_tests}
+use Rattle.bl_num.specs.declared.Decimal.{Decimal}
+use Rattle.bl_mps.specs.declared.kind.What.TheVariants as what
 use Rattle.bl_mps.specs.Said.{same, place_of, Cell, Grid}
-use Rattle.bl_mps.specs.Lines.{has_cell, put_cell}
+use Rattle.bl_mps.specs.Lines.{has_cell, add_cell}
 use Rattle.bl_mps.specs.Views.{rows_in}
 
 some_later : (o : Option ℕ) → is_some (option_map suc o) ≡ is_some o
@@ -51,18 +53,18 @@ rows_in-push (d ∷ cells) c = step (d.column == c.column) (rows_in-push cells c
     step true e = ap (λ (rs : List (List ℕ)). d.row ∷ rs) e
     step false e = e
 
-abbrev pub one_cell : Grid → List ℕ → ℤ → Cell
+abbrev pub one_cell : Grid → List ℕ → Decimal → Cell
 one_cell g row z = record { column = length g.names - 1; row = row; number = z }
 
 -- a second number of the column in the row is refused
-pub put_refused : (g : Grid) (here : List (List ℕ)) (row : List ℕ) (z : ℤ) → here ≡ rows_in g.cells (length g.names - 1) → is_some (place_of here row) ≡ true → put_cell g row z ≡ None
+pub put_refused : (g : Grid) (here : List (List ℕ)) (row : List ℕ) (z : Decimal) → here ≡ rows_in g.cells (length g.names - 1) → is_some (place_of here row) ≡ true → add_cell g row z ≡ Err what.Twice
 put_refused g here row z h s =
     let t : has_cell g.cells (length g.names - 1) row ≡ true = has_is g.cells (length g.names - 1) row ∙ ap (λ (rs : List (List ℕ)). is_some (place_of rs row)) (sym h) ∙ s in
     rw t refl
 
 -- the first one is put
-pub put_done : (g : Grid) (here : List (List ℕ)) (row : List ℕ) (z : ℤ) (cells : List Cell) → here ≡ rows_in g.cells (length g.names - 1) → is_some (place_of here row) ≡ false → cells ≡ g.cells ++ one_cell g row z ∷ []
-    → put_cell g row z ≡ Some (record { stretch = g.stretch; names = g.names; cells = cells })
+pub put_done : (g : Grid) (here : List (List ℕ)) (row : List ℕ) (z : Decimal) (cells : List Cell) → here ≡ rows_in g.cells (length g.names - 1) → is_some (place_of here row) ≡ false → cells ≡ g.cells ++ one_cell g row z ∷ []
+    → add_cell g row z ≡ Ok (record g { cells = cells })
 put_done g here row z cells h s e =
     let t : has_cell g.cells (length g.names - 1) row ≡ false = has_is g.cells (length g.names - 1) row ∙ ap (λ (rs : List (List ℕ)). is_some (place_of rs row)) (sym h) ∙ s in
     rw (t, e) refl

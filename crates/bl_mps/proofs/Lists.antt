@@ -1,14 +1,14 @@
 -- What is kept for each name, when one more number or card comes.
 use Rattle.std.proofs.Common.{◌≡◌, ℕ, ◌+◌, Bool, true, false, cond, ◌&&◌, List, [], ◌∷◌, ◌++◌, map, length, get_or, set, replicate, Option, Some, None, refl, sym, ap, ◌∙◌}
-use Rattle.std.specs.Prelude.{filter, not, nat_eq, nat_abs}
+use Rattle.std.specs.Prelude.{filter, not}
 use Rattle.std.specs.Cmp.Lexicographic.{bytes_decides}
 use Rattle.std.proofs.lemmas.List.{map-append, replicate-append-replicate}
 use Rattle.std.proofs.lemmas.List.Elements.{filter-append}
 use Rattle.std.proofs.lemmas.List.Sums.{fold_push}
-use Rattle.bl_problem.specs.declared.problem.Term.{Term}
+use Rattle.bl_mps.specs.declared.entries.Entry.{Entry}
 use Rattle.bl_mps.specs.declared.kind.Ends.{Ends}
 use Rattle.bl_mps.specs.Said.{same, place_of, Differ, Cell, Card}
-use Rattle.bl_mps.specs.Meaning.{terms_of, term_of, cells_of, cards_of, carded, ends_set, acted, unset, ends_or}
+use Rattle.bl_mps.specs.Meaning.{is_zero, entries_of, entry_of, cells_of, cards_of, carded, ends_set, acted, unset, ends_or}
 use Rattle.bl_mps.proofs.PerName.{written_at, read_at, map_same, same_turned}
 
 append_nothing : {A : Type 0} (xs : List A) → xs ++ [] ≡ xs
@@ -21,44 +21,44 @@ same_self a = (bytes_decides a a).1 refl
 -- ---- terms
 
 abbrev counts : List ℕ → Cell → Bool
-counts row c = same row c.row && not (nat_eq (nat_abs c.number) 0)
+counts row c = same row c.row && not (is_zero c.number)
 
-one_more : (t : Bool) (xs : List Term) (c : Cell) → xs ++ map term_of (cond t (c ∷ []) []) ≡ cond t (xs ++ term_of c ∷ []) xs
+one_more : (t : Bool) (xs : List Entry) (c : Cell) → xs ++ map entry_of (cond t (c ∷ []) []) ≡ cond t (xs ++ entry_of c ∷ []) xs
 one_more true xs c = refl
 one_more false xs c = append_nothing xs
 
 -- a number puts a term behind those of its row, if it counts
-pub terms_push : (cells : List Cell) (c : Cell) (row : List ℕ) → terms_of (cells ++ c ∷ []) row ≡ cond (counts row c) (terms_of cells row ++ term_of c ∷ []) (terms_of cells row)
-terms_push cells c row =
-    ap (map term_of) (filter-append (counts row) cells (c ∷ []))
-    ∙ map-append term_of (cells_of cells row) (filter (counts row) (c ∷ []))
-    ∙ one_more (counts row c) (terms_of cells row) c
+pub entries_push : (cells : List Cell) (c : Cell) (row : List ℕ) → entries_of (cells ++ c ∷ []) row ≡ cond (counts row c) (entries_of cells row ++ entry_of c ∷ []) (entries_of cells row)
+entries_push cells c row =
+    ap (map entry_of) (filter-append (counts row) cells (c ∷ []))
+    ∙ map-append entry_of (cells_of cells row) (filter (counts row) (c ∷ []))
+    ∙ one_more (counts row c) (entries_of cells row) c
 
 and_false : (a : Bool) → (a && false) ≡ false
 and_false true = refl
 and_false false = refl
 
 -- a zero changes nothing
-pub terms_zero : (names : List (List ℕ)) (cells : List Cell) (c : Cell) → nat_eq (nat_abs c.number) 0 ≡ true → map (terms_of cells) names ≡ map (terms_of (cells ++ c ∷ [])) names
-terms_zero [] cells c z = refl
-terms_zero (n ∷ names) cells c z =
-    let e : terms_of (cells ++ c ∷ []) n ≡ terms_of cells n = terms_push cells c n ∙ rw (z, and_false (same n c.row)) refl in
-    rw (e, ← (terms_zero names cells c z)) refl
+pub entries_zero : (names : List (List ℕ)) (cells : List Cell) (c : Cell) → is_zero c.number ≡ true → map (entries_of cells) names ≡ map (entries_of (cells ++ c ∷ [])) names
+entries_zero [] cells c z = refl
+entries_zero (n ∷ names) cells c z =
+    let e : entries_of (cells ++ c ∷ []) n ≡ entries_of cells n = entries_push cells c n ∙ rw (z, and_false (same n c.row)) refl in
+    rw (e, ← (entries_zero names cells c z)) refl
 
-others : (cells : List Cell) (c : Cell) (m : List ℕ) → same c.row m ≡ false → terms_of (cells ++ c ∷ []) m ≡ terms_of cells m
-others cells c m e = terms_push cells c m ∙ rw (same_turned c.row m e) refl
+others : (cells : List Cell) (c : Cell) (m : List ℕ) → same c.row m ≡ false → entries_of (cells ++ c ∷ []) m ≡ entries_of cells m
+others cells c m e = entries_push cells c m ∙ rw (same_turned c.row m e) refl
 
 -- so does a number of a row that is none of these
-pub terms_unknown : (names : List (List ℕ)) (cells : List Cell) (c : Cell) → place_of names c.row ≡ None → map (terms_of cells) names ≡ map (terms_of (cells ++ c ∷ [])) names
-terms_unknown names cells c e = map_same names c.row (terms_of cells) (terms_of (cells ++ c ∷ [])) e (others cells c)
+pub entries_unknown : (names : List (List ℕ)) (cells : List Cell) (c : Cell) → place_of names c.row ≡ None → map (entries_of cells) names ≡ map (entries_of (cells ++ c ∷ [])) names
+entries_unknown names cells c e = map_same names c.row (entries_of cells) (entries_of (cells ++ c ∷ [])) e (others cells c)
 
 -- another number puts its term at its row's place
-pub terms_put : (names : List (List ℕ)) (cells : List Cell) (c : Cell) (i : ℕ) (lists : List (List Term)) (now new : List Term) → Differ names → place_of names c.row ≡ Some i → nat_eq (nat_abs c.number) 0 ≡ false
-    → lists ≡ map (terms_of cells) names → now ≡ get_or lists i now → new ≡ now ++ term_of c ∷ [] → set lists i new ≡ map (terms_of (cells ++ c ∷ [])) names
-terms_put names cells c i lists now new d e z h n p =
-    let here : terms_of (cells ++ c ∷ []) c.row ≡ new =
-    terms_push cells c c.row ∙ rw (same_self c.row, z) (ap (λ (ts : List Term). ts ++ term_of c ∷ []) (sym (n ∙ rw h (read_at names c.row i (terms_of cells) now e))) ∙ sym p) in
-    rw (h, ← here) (written_at names c.row i (terms_of cells) (terms_of (cells ++ c ∷ [])) d e (others cells c))
+pub entries_put : (names : List (List ℕ)) (cells : List Cell) (c : Cell) (i : ℕ) (lists : List (List Entry)) (now new : List Entry) → Differ names → place_of names c.row ≡ Some i → is_zero c.number ≡ false
+    → lists ≡ map (entries_of cells) names → now ≡ get_or lists i now → new ≡ now ++ entry_of c ∷ [] → set lists i new ≡ map (entries_of (cells ++ c ∷ [])) names
+entries_put names cells c i lists now new d e z h n p =
+    let here : entries_of (cells ++ c ∷ []) c.row ≡ new =
+    entries_push cells c c.row ∙ rw (same_self c.row, z) (ap (λ (ts : List Entry). ts ++ entry_of c ∷ []) (sym (n ∙ rw h (read_at names c.row i (entries_of cells) now e))) ∙ sym p) in
+    rw (h, ← here) (written_at names c.row i (entries_of cells) (entries_of (cells ++ c ∷ [])) d e (others cells c))
 
 -- ---- cards
 
@@ -100,13 +100,13 @@ replicate_more n a = sym (replicate-append-replicate n 1 a)
 
 -- ---- the term of a number
 
-abbrev term_by : Bool → Term → Option Term
-term_by t x = cond t None (Some x)
+abbrev entry_by : Bool → Entry → Option Entry
+entry_by t x = cond t None (Some x)
 
-pub no_term : (t : Bool) (x : Term) → term_by t x ≡ None → t ≡ true
-no_term true x e = refl
-no_term false x e = absurd cc
+pub no_entry : (t : Bool) (x : Entry) → entry_by t x ≡ None → t ≡ true
+no_entry true x e = refl
+no_entry false x e = absurd cc
 
-pub a_term : (t : Bool) (x y : Term) → term_by t x ≡ Some y → (t ≡ false) × (x ≡ y)
-a_term true x y e = absurd cc
-a_term false x y e = (refl, cc)
+pub an_entry : (t : Bool) (x y : Entry) → entry_by t x ≡ Some y → (t ≡ false) × (x ≡ y)
+an_entry true x y e = absurd cc
+an_entry false x y e = (refl, cc)

@@ -1,11 +1,12 @@
 -- Rows kept as names and roles.
-use Rattle.std.proofs.Common.{◌≡◌, ℕ, zero, suc, ◌<◌, Bool, true, false, cond, List, [], ◌∷◌, ◌++◌, map, length, get_or, Option, Some, None, refl, sym, ap, ◌∙◌, arith}
-use Rattle.std.specs.Prelude.{option_map, ◌==◌}
+use Rattle.std.proofs.Common.{◌≡◌, ℕ, zero, suc, ◌+◌, ◌<◌, Bool, true, false, cond, ◌||◌, List, [], ◌∷◌, ◌++◌, map, length, take, get_or, Option, Some, None, refl, sym, ap, ◌∙◌, arith}
+use Rattle.std.specs.Prelude.{option_map}
 use Rattle.bl_mps.specs.declared.kind.Role.{Role}
 use Rattle.bl_mps.specs.Said.{same, place_of, RowLine}
-use Rattle.bl_mps.specs.Lines.{role_of, is_first}
-use Rattle.bl_mps.specs.Views.{row_lines}
-use Rattle.std.proofs.lemmas.Bool.Decides.{nat_tests}
+use Rattle.std.proofs.lemmas.List.{length-append, take_more}
+use Rattle.bl_mps.specs.Lines.{role_of, count_limited, has_objective, is_limited, is_objective}
+use Rattle.bl_mps.specs.Meaning.{objective_in}
+use Rattle.bl_mps.specs.Views.{row_lines, AreKept}
 
 abbrev pub row : List ℕ → Role → RowLine
 row n r = record { name = n; role = r }
@@ -43,13 +44,6 @@ count_lines [] roles e = refl
 count_lines (n ∷ names) [] e = absurd (omega arith)
 count_lines (n ∷ names) (r ∷ roles) e = ap suc (count_lines names roles (omega arith))
 
--- the first row is still to come where there is no name
-pub first_is : (names : List (List ℕ)) (roles : List Role) → length roles ≡ length names → is_first (row_lines names roles) ≡ (length names == 0)
-first_is [] [] e = refl
-first_is [] (r ∷ roles) e = absurd (omega arith)
-first_is (n ∷ names) [] e = absurd (omega arith)
-first_is (n ∷ names) (r ∷ roles) e = grind (arith, nat_tests)
-
 pub names_are : (names : List (List ℕ)) (roles : List Role) → length roles ≡ length names → map (λ (r : RowLine). r.name) (row_lines names roles) ≡ names
 names_are [] roles e = refl
 names_are (n ∷ names) [] e = absurd (omega arith)
@@ -62,3 +56,45 @@ line_at [] roles i d r e l = absurd (omega arith)
 line_at (n ∷ names) [] i d r e l = absurd (omega arith)
 line_at (n ∷ names) (x ∷ roles) zero d r e l = (refl, refl)
 line_at (n ∷ names) (x ∷ roles) (suc i) d r e l = line_at names roles i d r (omega arith) (omega arith)
+
+pub count_pushed : (rows : List RowLine) (x : RowLine) → count_limited (rows ++ x ∷ []) ≡ count_limited rows + cond (is_limited x.role) 1 0
+count_pushed [] x = omega arith
+count_pushed (r ∷ rows) x = omega (arith, count_pushed rows x)
+
+or_false : (a b : Bool) → (b || (a || false)) ≡ (b || a)
+or_false true b = refl
+or_false false b = refl
+
+or_more : (a b c : Bool) → (a || (b || c)) ≡ ((a || b) || c)
+or_more true b c = refl
+or_more false b c = refl
+
+pub objective_pushed : (rows : List RowLine) (x : RowLine) → has_objective (rows ++ x ∷ []) ≡ (has_objective rows || is_objective x.role)
+objective_pushed [] x = or_false (is_objective x.role) false
+objective_pushed (r ∷ rows) x = ap (λ (b : Bool). is_objective r.role || b) (objective_pushed rows x) ∙ or_more (is_objective r.role) (has_objective rows) (is_objective x.role)
+
+pub kept_push : (names names' : List (List ℕ)) (roles roles' : List Role) (n : List ℕ) (r : Role) (limited more : ℕ) (had now : Bool) → AreKept names roles limited had → names' ≡ names ++ n ∷ [] → roles' ≡ roles ++ r ∷ []
+    → more ≡ cond (is_limited r) 1 0 → now ≡ is_objective r → AreKept names' roles' (limited + more) (had || now)
+kept_push names names' roles roles' n r limited more had now k f g m o =
+    let e = lines_push names names' roles roles' n r k.as_many f g in
+    record {
+      as_many = rw (f, g) (omega (arith, length-append names (n ∷ []), length-append roles (r ∷ []), k.as_many));
+      limited_is = rw (e, count_pushed (row_lines names roles) (row n r), m) (omega (arith, k.limited_is));
+      objective_is = rw (e, objective_pushed (row_lines names roles) (row n r), o) (ap (λ (b : Bool). b || is_objective r) k.objective_is);
+    }
+
+neither : (a b : Bool) → (a || b) ≡ false → (a ≡ false) × (b ≡ false)
+neither true b e = absurd cc
+neither false b e = (refl, e)
+
+-- the first objective among the rows
+pub objective_at : (rows : List RowLine) (i : ℕ) (d : RowLine) → i < length rows → has_objective (take i rows) ≡ false → is_objective (get_or rows i d).role ≡ true → ((get_or rows i d).name ≡ objective_in rows) × (has_objective rows ≡ true)
+objective_at [] i d l e f = absurd (omega arith)
+objective_at (r ∷ rows) zero d l e f = rw f (refl, refl)
+objective_at (r ∷ rows) (suc i) d l e f =
+    let n = neither (is_objective r.role) (has_objective (take i rows)) e in
+    let t = n.0 in
+    rw t (objective_at rows i d (omega arith) n.1 f)
+
+pub objective_more : (rows : List RowLine) (i : ℕ) (d : RowLine) → i < length rows → has_objective (take i rows) ≡ false → is_objective (get_or rows i d).role ≡ false → has_objective (take (i + 1) rows) ≡ false
+objective_more rows i d l e f = ap has_objective (take_more rows i d l) ∙ objective_pushed (take i rows) (get_or rows i d) ∙ rw (e, f) refl

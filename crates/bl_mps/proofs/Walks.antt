@@ -1,25 +1,25 @@
 -- Reading one line after another.
-use Rattle.std.proofs.Common.{◌≡◌, ℕ, true, false, List, [], ◌∷◌, Option, Some, None, Err, refl}
-use Rattle.bl_mps.specs.declared.fault.ModelFault.{ModelFault}
-use Rattle.bl_mps.specs.declared.fault.ModelFault.TheVariants.{Unbuilt, Memory}
+use Rattle.std.proofs.Common.{◌≡◌, ℕ, ◌+◌, true, false, List, [], ◌∷◌, Result, Ok, Err, refl}
+use Rattle.bl_mps.specs.declared.kind.What.{What}
+use Rattle.bl_mps.specs.declared.kind.What.TheVariants as what
 use Rattle.bl_mps.specs.Said.{Said, ◌>>=◌}
-use Rattle.bl_mps.specs.Reading.{is_end, after_line, said_from}
-use Rattle.bl_mps.specs.Views.{Follows}
+use Rattle.bl_mps.specs.Reading.{Fault, Whole, is_end, at_line, after_line, said_from}
 
-pub said_done : (s : Said) (lines : List (List ℕ)) → is_end s.section ≡ true → said_from s lines ≡ Some s
+abbrev pub whole : Said → ℕ → Whole
+whole s n = record { said = s; last = n }
+
+abbrev pub fault_at : ℕ → What → Fault
+fault_at n w = record { line = n; what = w }
+
+pub said_done : (n : ℕ) (s : Said) (lines : List (List ℕ)) → is_end s.section ≡ true → said_from n s lines ≡ Ok (whole s n)
 unfolding said_from
-said_done s [] e = rw e refl
-said_done s (line ∷ lines) e = rw e refl
+said_done n s [] e = rw e refl
+said_done n s (line ∷ lines) e = rw e refl
 
-pub said_open : (s : Said) → is_end s.section ≡ false → said_from s [] ≡ None
+pub said_open : (n : ℕ) (s : Said) → is_end s.section ≡ false → said_from n s [] ≡ Err (fault_at (n + 1) what.NoEnd)
 unfolding said_from
-said_open s e = rw e refl
+said_open n s e = rw e refl
 
-pub said_step : (s : Said) (line : List ℕ) (lines : List (List ℕ)) (r : Option Said) → is_end s.section ≡ false → after_line s line ≡ r → said_from s (line ∷ lines) ≡ (r >>= λ t. said_from t lines)
+pub said_step : (n : ℕ) (s : Said) (line : List ℕ) (lines : List (List ℕ)) (r : Result Said What) → is_end s.section ≡ false → after_line s line ≡ r → said_from n s (line ∷ lines) ≡ (at_line (n + 1) r >>= λ t. said_from (n + 1) t lines)
 unfolding said_from
-said_step s line lines r e f = rw (e, f) refl
-
--- a line that is refused ends the reading
-pub said_fails : (fault : ModelFault) (s t : Said) (line : List ℕ) (lines : List (List ℕ)) → is_end s.section ≡ false → Follows {U = Unit {0}} (Err fault) (after_line s line) t → Follows {U = Unit {0}} (Err fault) (said_from s (line ∷ lines)) t
-said_fails Memory s t line lines e f = tt
-said_fails Unbuilt s t line lines e f = said_step s line lines None e f
+said_step n s line lines r e f = rw (e, f) refl

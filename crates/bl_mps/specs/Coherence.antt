@@ -1,29 +1,30 @@
 -- What holds of everything that a file says.
-use Rattle.std.specs.Prelude.{◌≡◌, ℕ, ◌<◌, ◌≤◌, ◌^◌, ◌⊎◌, false, List, [], ◌∷◌, length, map, All, AllPairs, ℤ, unsigned_abs}
+use Rattle.std.specs.Prelude.{◌≡◌, ℕ, ◌<◌, ◌≤◌, ◌^◌, ◌⊎◌, false, List, length, map, All, AllPairs, ℤ, unsigned_abs}
+use Rattle.bl_num.specs.declared.Decimal.{Decimal}
+use Rattle.bl_num.specs.Spellings.{IsCanonical, IsWithinLimits}
 use Rattle.bl_problem.specs.Program.{IsName, IsRowName}
-use Rattle.bl_mps.specs.declared.kind.Role.TheVariants.{Objective}
 use Rattle.bl_mps.specs.Said.{same, Differ, RowLine, Cell, Grid, Said}
-use Rattle.bl_mps.specs.Lines.{is_objective}
+use Rattle.bl_mps.specs.Lines.{count_limited}
+use Rattle.bl_mps.specs.Meaning.{RowSaid, or_zero}
 
--- a number of 1 to 9 digits
+-- a decimal that was read
+pub record IsRead (d : Decimal) : Type 0 where
+  pub canonical : IsCanonical d
+  pub limits : IsWithinLimits d
+
+-- a bound that was read
 abbrev pub IsSmall : ℤ → Type 0
-IsSmall z = unsigned_abs z < 10 ^ 9
-
--- the first row is the objective, and no other is
-abbrev pub AreRoles : List RowLine → Type 0
-AreRoles [] = Unit {0}
-AreRoles (r ∷ rows) = (r.role ≡ Objective) × All (λ l. is_objective l.role ≡ false) rows
+IsSmall z = unsigned_abs z ≤ 10 ^ 9
 
 pub record AreRows (rows : List RowLine) : Type 0 where
   pub names : All (λ r. IsRowName r.name) rows
   pub differ : Differ (map (λ r. r.name) rows)
-  pub few : length rows ≤ 1001
-  pub roles : AreRoles rows
+  pub few : count_limited rows ≤ 1000
 
 -- a number of one of n columns
 pub record IsCell (n : ℕ) (c : Cell) : Type 0 where
   pub within : c.column < n
-  pub small : IsSmall c.number
+  pub number : IsRead c.number
 
 -- numbers come column by column, one for a column and row
 abbrev pub IsBefore : Cell → Cell → Type 0
@@ -39,5 +40,12 @@ pub record AreColumns (g : Grid) : Type 0 where
 pub record IsCoherent (s : Said) : Type 0 where
   pub lines : AreRows s.rows
   pub grid : AreColumns s.columns
-  pub given : All (λ g. IsSmall g.number) s.rhs.given
+  pub rhs : All (λ g. IsRead g.number) s.rhs.given
+  pub ranges : All (λ g. IsRead g.number) s.ranges.given
   pub cards : All (λ c. IsSmall c.number) s.bounds.given
+
+-- the numbers of a row were read
+pub record IsRowRead (r : RowSaid) : Type 0 where
+  pub entries : All (λ e. IsRead e.number) r.entries
+  pub right : IsRead r.right
+  pub range : IsRead (or_zero r.range)

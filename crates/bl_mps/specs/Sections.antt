@@ -1,8 +1,9 @@
 -- A file as sections that are lists of data lines.
-use Rattle.std.specs.Prelude.{◌≡◌, ℕ, Bool, true, false, ◌==◌, if◌then◌else◌, List, [], ◌∷◌, ◌++◌, map, filter, Option, Some, None}
+use Rattle.std.specs.Prelude.{◌≡◌, ℕ, Bool, true, false, ◌==◌, if◌then◌else◌, List, [], ◌∷◌, ◌++◌, map, filter, Option, Some, None, Result, Ok}
 use Rattle.bl_text.specs.Pieces.{is_blank, words_of}
+use Rattle.bl_mps.specs.declared.kind.What.{What}
 use Rattle.bl_mps.specs.declared.kind.Section.{Section}
-use Rattle.bl_mps.specs.declared.kind.Section.TheVariants.{Start, Rows, Columns, Rhs, Bounds}
+use Rattle.bl_mps.specs.declared.kind.Section.TheVariants.{Start, Rows, Columns, Rhs, Ranges, Bounds}
 use Rattle.bl_mps.specs.Said.{Said, no_columns, no_set, ◌>>=◌}
 use Rattle.bl_mps.specs.Lines.{section_of, rank, rows_line, columns_line, given_line, bounds_line}
 use Rattle.bl_mps.specs.Reading.{is_end}
@@ -50,14 +51,22 @@ in_section section lines = map (λ l. l.words) (filter (λ l. rank l.section == 
 abbrev pub lines_in : Section → List (List ℕ) → List (List (List ℕ))
 lines_in section lines = in_section section (data_lines Start lines)
 
--- lines taken in turn: what they say together, or None where one breaks a rule
-abbrev pub in_turn : {A : Type 0} → (A → List (List ℕ) → Option A) → A → List (List (List ℕ)) → Option A
-in_turn take said [] = Some said
+-- lines taken in turn: what they say together, or the first rule that one breaks
+abbrev pub in_turn : {A : Type 0} → (A → List (List ℕ) → Result A What) → A → List (List (List ℕ)) → Result A What
+in_turn take said [] = Ok said
 in_turn take said (words ∷ lines) = take said words >>= λ next. in_turn take next lines
 
--- each section says what its own data lines say in turn: ROWS alone the rows, COLUMNS the columns in those rows, and so on
+-- the second word of a line
+abbrev pub second_word : List (List ℕ) → List ℕ
+second_word [] = []
+second_word (first ∷ []) = []
+second_word (first ∷ second ∷ words) = second
+
+-- each section says what its own data lines say in turn: ROWS alone the rows, COLUMNS the columns and the numbers in those rows, and so on
 pub record IsReadBySections (lines : List (List ℕ)) (s : Said) : Type 0 where
-  pub rows : in_turn rows_line [] (lines_in Rows lines) ≡ Some s.rows
-  pub columns : in_turn (columns_line s.rows) no_columns (lines_in Columns lines) ≡ Some s.columns
-  pub rhs : in_turn (given_line s.rows) no_set (lines_in Rhs lines) ≡ Some s.rhs
-  pub bounds : in_turn (bounds_line s.columns.names) no_set (lines_in Bounds lines) ≡ Some s.bounds
+  pub rows : in_turn rows_line [] (lines_in Rows lines) ≡ Ok s.rows
+  pub names : map (λ r. r.name) s.rows ≡ map second_word (lines_in Rows lines)
+  pub columns : in_turn (columns_line s.rows) no_columns (lines_in Columns lines) ≡ Ok s.columns
+  pub rhs : in_turn (given_line false s.rows) no_set (lines_in Rhs lines) ≡ Ok s.rhs
+  pub ranges : in_turn (given_line true s.rows) no_set (lines_in Ranges lines) ≡ Ok s.ranges
+  pub bounds : in_turn (bounds_line s.columns.names) no_set (lines_in Bounds lines) ≡ Ok s.bounds

@@ -1,7 +1,7 @@
 //! The ends of each column.
 ghost use Rattle.std.specs.Prelude.{◌≡◌, map, length, IfOk, replicate, None, Some, List, [], ◌∷◌, ◌++◌, pos};
 ghost use Rattle.bl_mps.specs.Said.{Card};
-ghost use Rattle.bl_mps.specs.Meaning.{acted, ends_set, ends_or, unset, binary};
+ghost use Rattle.bl_mps.specs.Meaning.{acted, ends_set, ends_or, unset, binary, lowered, raised, as_whole, set_ends};
 ghost use Rattle.bl_mps.specs.Views.{card_of};
 
 use crate::bounds::BoundCard;
@@ -48,29 +48,108 @@ fn put_card(ends: &mut Vec<Option<Ends>>, names: &Names<'_>, card: &BoundCard<'_
     }
 }
 
-/// The ends behind a card.
-fn with_card(ends: Option<Ends>, card: &BoundCard<'_>) -> Ends
-    ensures { result ≡ acted (ends_or unset ends) (card_of card.now) }
+/// The ends behind an upper bound. A negative one takes a low end away that no card has given.
+fn lowered(now: Ends, number: i64) -> Ends
+    ensures { result ≡ lowered now number }
 {
-    let now = ends.unwrap_or(Ends { low: 0, high: None });
-    match card.act {
-        Act::High => Ends {
-            low: now.low,
-            high: Some(card.number),
+    let low = if number < 0 && !now.low_is_said {
+        None
+    } else {
+        now.low
+    };
+    Ends {
+        low,
+        high: Some(number),
+        low_is_said: now.low_is_said,
+        is_whole: now.is_whole,
+    }
+}
+
+fn raised(now: Ends, number: i64) -> Ends
+    ensures { result ≡ raised now number }
+{
+    Ends {
+        low: Some(number),
+        high: now.high,
+        low_is_said: true,
+        is_whole: now.is_whole,
+    }
+}
+
+fn as_whole(now: Ends) -> Ends
+    ensures { result ≡ as_whole now }
+{
+    Ends {
+        low: now.low,
+        high: now.high,
+        low_is_said: now.low_is_said,
+        is_whole: true,
+    }
+}
+
+/// The ends behind a card of this kind.
+fn set_ends(act: Act, now: Ends, number: i64) -> Ends
+    ensures { result ≡ set_ends act now number }
+{
+    match act {
+        Act::High => lowered(now, number),
+        Act::WholeHigh => as_whole(lowered(now, number)),
+        Act::Low => raised(now, number),
+        Act::WholeLow => as_whole(raised(now, number)),
+        Act::Both => Ends {
+            low: Some(number),
+            high: Some(number),
+            low_is_said: true,
+            is_whole: now.is_whole,
         },
-        Act::Low => Ends {
-            low: card.number,
+        Act::Free => Ends {
+            low: None,
+            high: None,
+            low_is_said: true,
+            is_whole: now.is_whole,
+        },
+        Act::NoLow => Ends {
+            low: None,
             high: now.high,
+            low_is_said: true,
+            is_whole: now.is_whole,
+        },
+        Act::NoHigh => Ends {
+            low: now.low,
+            high: None,
+            low_is_said: now.low_is_said,
+            is_whole: now.is_whole,
+        },
+        Act::Binary => Ends {
+            low: Some(0),
+            high: Some(1),
+            low_is_said: true,
+            is_whole: true,
         },
     }
 }
 
-/// A column without a card is 0 or 1.
+/// The ends behind a card.
+fn with_card(ends: Option<Ends>, card: &BoundCard<'_>) -> Ends
+    ensures { result ≡ acted (ends_or unset ends) (card_of card.now) }
+{
+    let now = ends.unwrap_or(Ends {
+        low: Some(0),
+        high: None,
+        low_is_said: false,
+        is_whole: false,
+    });
+    set_ends(card.act, now, card.number)
+}
+
+/// A whole column without a card is 0 or 1.
 pub fn or_binary(ends: Option<Ends>) -> Ends
     ensures { result ≡ ends_or binary ends }
 {
     ends.unwrap_or(Ends {
-        low: 0,
+        low: Some(0),
         high: Some(1),
+        low_is_said: false,
+        is_whole: false,
     })
 }

@@ -1,34 +1,43 @@
-//! Why no problem was read.
+//! Why a line, or a file, was not read.
 
 ghost use Rattle.std.specs.Prelude.{◌≡◌};
-ghost use Rattle.bl_mps.specs.declared.fault.ModelFault.TheVariants.{Memory};
+ghost use Rattle.bl_mps.specs.declared.fault.LineFault.TheVariants.{Memory};
 
+use crate::kind::What;
 use std::alloc::{AllocError, AllocFailed};
 use thiserror::Error;
+
+/// Why a line was not taken.
+#[derive(Debug, Drop)]
+pub enum LineFault {
+    Memory,
+    /// The first rule that the line breaks.
+    Broken(What),
+}
+
+impl From<AllocError> for LineFault {
+    ghost from_gives = { λ _ e. e ≡ Memory };
+
+    fn from(_e: AllocError) -> LineFault {
+        LineFault::Memory
+    }
+}
+
+impl<T: Drop> From<AllocFailed<T>> for LineFault {
+    ghost from_gives = { λ _ e. e ≡ Memory };
+
+    fn from(_e: AllocFailed<T>) -> LineFault {
+        LineFault::Memory
+    }
+}
 
 /// Why no problem was read.
 #[derive(Debug, Drop, Error)]
 pub enum ModelFault {
-    /// The file is not of the form that is read.
-    #[error("Unbuilt")]
-    Unbuilt,
+    /// The first fault of the file, and its line, counted from 1.
+    #[error("line {line}: {what:?}")]
+    At { line: u32, what: What },
     /// There is not enough memory.
-    #[error("Memory")]
+    #[error("not enough memory")]
     Memory,
-}
-
-impl From<AllocError> for ModelFault {
-    ghost from_gives = { λ _ e. e ≡ Memory };
-
-    fn from(_e: AllocError) -> ModelFault {
-        ModelFault::Memory
-    }
-}
-
-impl<T: Drop> From<AllocFailed<T>> for ModelFault {
-    ghost from_gives = { λ _ e. e ≡ Memory };
-
-    fn from(_e: AllocFailed<T>) -> ModelFault {
-        ModelFault::Memory
-    }
 }

@@ -1,54 +1,27 @@
 //! The problem that a file said.
-ghost use Rattle.std.specs.Prelude.{◌≡◌, ◌≢◌, ◌≤◌, ◌<◌, All, IfOk, [], length, map, List, slice_index_or, ◌&&◌, true};
+ghost use Rattle.std.specs.Prelude.{◌≡◌, ◌≢◌, ◌≤◌, ◌<◌, All, [], length, map, List, slice_index_or, true, IfOk, None, Ok, ◌||◌};
 ghost use Rattle.std.specs.List.{list_all};
 ghost use Rattle.bl_num.specs.Exact.{at};
-ghost use Rattle.bl_mps.specs.declared.kind.Ends.{Ends};
 ghost use Rattle.bl_mps.specs.Said.{RowLine};
-ghost use Rattle.bl_mps.specs.Lines.{is_objective};
-ghost use Rattle.bl_mps.specs.Meaning.{is_behind, finished, has_end, ends_or, binary, ends_set, end_or_zero, column_of, columns_from, columns_of, terms_of, objective_in, low_end, high_end, row_of, rows_of, has_rows};
-ghost use Rattle.bl_mps.specs.Coherence.{IsCoherent, AreRows};
-ghost use Rattle.bl_mps.specs.Views.{Gives};
+ghost use Rattle.bl_mps.specs.Lines.{is_limited, has_objective};
+ghost use Rattle.bl_mps.specs.Meaning.{finished, limited, keeps_limits, program_of, has_ends, ends_or, binary, ends_set, end_or_zero, column_of, columns_from, entries_of, objective_in, row_in, row_of, row_within, rows_of, places_of, objective_of, objective_in_units, objective_within, all_ends, are_whole, are_bounded};
+ghost use Rattle.bl_mps.specs.Coherence.{IsCoherent, IsRowRead, AreRows};
+ghost use Rattle.bl_mps.specs.Views.{Gives, row_said};
 ghost use Rattle.bl_problem.specs.declared.problem.Term.{Term};
 ghost use Rattle.bl_problem.specs.Program.{IsName, IsRowName};
 ghost use Rattle.bl_problem.specs.Rows.{coefficient_of};
-ghost use Rattle.bl_problem.specs.Points.{points_in, lows_of, highs_of};
 
-use crate::count::{MOST_POINTS, count_points};
 use crate::ends::{column_ends, or_binary};
-use crate::fault::ModelFault;
-use crate::kind::{Ends, Role, Stretch};
+use crate::entries::{Entry, dense, row_entries};
+use crate::fault::LineFault;
+use crate::kind::{Ends, Role, What};
 use crate::reader::Reader;
-use crate::terms::{dense, row_terms};
+use crate::rows::is_limited;
+use crate::scale::{offset, or_zero, places_of, row_ends, terms};
 use bl_mods::Items;
+use bl_num::Decimal;
 use bl_problem::{Column, Name, Problem, Row, Term};
 use std::alloc::{AllocError, Global};
-
-/// Whether the marker stretch is closed.
-fn is_behind(stretch: Stretch) -> bool
-    ensures { result ≡ is_behind stretch }
-{
-    matches!(stretch, Stretch::Behind)
-}
-
-fn is_objective(role: Role) -> bool
-    ensures { result ≡ is_objective role }
-{
-    matches!(role, Role::Objective)
-}
-
-/// A column has a high end.
-fn has_end(ends: Option<Ends>) -> bool
-    ensures { result ≡ has_end ends }
-{
-    or_binary(ends).high.is_some()
-}
-
-/// Whether each column has a high end.
-fn are_bounded(ends: &[Option<Ends>]) -> bool
-    ensures { result ≡ list_all has_end ends.now }
-{
-    ends.iter().all(|&end| has_end(end))
-}
 
 /// A name of its own.
 fn make_name(alloc: Global, bytes: &[u8]) -> Result<Name, AllocError>
@@ -60,75 +33,78 @@ fn make_name(alloc: Global, bytes: &[u8]) -> Result<Name, AllocError>
     Ok(Name::new(copy))
 }
 
-fn low_end(role: Role, right: i64) -> Option<i128>
-    ensures { result ≡ low_end role right }
-{
-    match role {
-        Role::AtLeast | Role::Equal => Some(i128::from(right)),
-        Role::Objective | Role::AtMost => None,
-    }
-}
-
-fn high_end(role: Role, right: i64) -> Option<i128>
-    ensures { result ≡ high_end role right }
-{
-    match role {
-        Role::AtMost | Role::Equal => Some(i128::from(right)),
-        Role::Objective | Role::AtLeast => None,
-    }
-}
-
+/// A row from its numbers, TooWide where one is beyond the limits in the row's own units.
 fn make_row(
     alloc: Global,
     name: &[u8],
     role: Role,
-    terms: &[Term],
-    right: i64,
-) -> Result<Row, AllocError>
-    requires { name.now ≢ [] }
-    ensures { IfOk result (λ row. row ≡ record { name = name.now; terms = terms.now; low = low_end role right; high = high_end role right }) }
+    entries: &[Entry],
+    right: Decimal,
+    range: Option<Decimal>,
+) -> Result<Row, LineFault>
+    requires name { name.now ≢ [] }
+    requires limited { is_limited role ≡ true }
+    requires read { IsRowRead (row_said entries.now right range) }
+    ensures { Gives result (limited row_within (row_in (places_of (row_said entries.now right range)) (record { name = name.now; role = role }) (row_said entries.now right range))) }
 {
-    let mut copy = Vec::new(alloc);
-    copy.extend_from_slice(terms)?;
-    Ok(Row {
-        name: make_name(alloc, name)?,
-        terms: Items::from_vec(copy),
-        low: low_end(role, right),
-        high: high_end(role, right),
-    })
+    let places = places_of(entries, right, range);
+    let Some(ends) = row_ends(role, right, range, places) else {
+        return Err(LineFault::Broken(What::TooWide));
+    };
+    match terms(alloc, entries, places) {
+        Ok(terms) => Ok(Row {
+            name: make_name(alloc, name)?,
+            terms,
+            low: ends.low,
+            high: ends.high,
+        }),
+        Err(fault) => Err(fault),
+    }
 }
 
-/// The row at a place, from its terms.
+/// The row at a place, from its entries.
 fn row_at(
     alloc: Global,
     reader: &Reader<'_>,
     place: usize,
-    terms: &[Term],
-) -> Result<Row, AllocError>
+    entries: &[Entry],
+) -> Result<Row, LineFault>
     requires place { place < length reader.now.rows }
-    requires names { All (λ r. IsRowName r.name) reader.now.rows }
-    requires terms { (d : RowLine) → terms.now ≡ terms_of reader.now.columns.cells (slice_index_or reader.now.rows place d).name }
-    ensures { IfOk result (λ row. (d : RowLine) → row ≡ row_of reader.now (slice_index_or reader.now.rows place d)) }
+    requires coherent { IsCoherent reader.now }
+    requires limited { (d : RowLine) → is_limited (slice_index_or reader.now.rows place d).role ≡ true }
+    requires entries { (d : RowLine) → entries.now ≡ entries_of reader.now.columns.cells (slice_index_or reader.now.rows place d).name }
+    ensures { (d : RowLine) → Gives result (limited row_within (row_of reader.now (slice_index_or reader.now.rows place d))) }
 {
     let name = reader.rows().name(place);
-    let right = reader.rhs().number(name);
-    make_row(alloc, name, reader.rows().role_at(place), terms, right)
+    let right = or_zero(reader.rhs().number(name));
+    let range = reader.ranges().number(name);
+    make_row(
+        alloc,
+        name,
+        reader.rows().role_at(place),
+        entries,
+        right,
+        range,
+    )
 }
 
-/// The rows beside the objective, from the terms of each row.
+/// The rows with ends, from the entries of each row. TooWide where a number of one is beyond the limits.
 fn make_rows(
     alloc: Global,
     reader: &Reader<'_>,
-    terms: &[Items<Term>],
-) -> Result<Vec<Row>, AllocError>
-    requires names { All (λ r. IsRowName r.name) reader.now.rows }
-    requires terms { terms.now ≡ map (terms_of reader.now.columns.cells) (map (λ r. r.name) reader.now.rows) }
-    ensures { IfOk result (λ rows. rows.items ≡ rows_of reader.now) }
+    entries: &[Items<Entry>],
+) -> Result<Items<Row>, LineFault>
+    requires coherent { IsCoherent reader.now }
+    requires entries { entries.now ≡ map (entries_of reader.now.columns.cells) (map (λ r. r.name) reader.now.rows) }
+    ensures { Gives result (limited (list_all row_within) (rows_of reader.now)) }
 {
-    let mut rows = Vec::new(alloc);
+    let mut rows = Items::new(alloc);
     for i in 0..reader.rows().len() {
-        if !is_objective(reader.rows().role_at(i)) {
-            rows.push(row_at(alloc, reader, i, terms[i].as_slice())?)?;
+        if is_limited(reader.rows().role_at(i)) {
+            match row_at(alloc, reader, i, entries[i].as_slice()) {
+                Ok(row) => rows.push(row)?,
+                Err(fault) => return Err(fault),
+            }
         }
     }
     Ok(rows)
@@ -151,7 +127,7 @@ fn column_at(
     let ends = or_binary(ends);
     Ok(Column {
         name: make_name(alloc, reader.columns().names().name(place))?,
-        low: ends.low,
+        low: ends.low.unwrap_or(0),
         high: ends.high.unwrap_or(0),
         cost,
     })
@@ -165,7 +141,7 @@ fn make_columns(
     objective: &[Term],
 ) -> Result<Vec<Column>, AllocError>
     requires names { All IsName reader.now.columns.names }
-    requires ends { ends.now ≡ map (ends_set reader.now.bounds.given) reader.now.columns.names }
+    requires ends { ends.now ≡ all_ends reader.now }
     ensures { IfOk result (λ columns. columns.items ≡ columns_from reader.now objective.now 0 reader.now.columns.names) }
 {
     let count = reader.columns().names().len();
@@ -177,71 +153,158 @@ fn make_columns(
     Ok(columns)
 }
 
-/// Whether the marker stretch is closed and there is an objective.
-fn is_complete(reader: &Reader<'_>) -> bool
-    ensures { result ≡ (is_behind reader.now.columns.stretch && has_rows reader.now.rows) }
+/// The objective in units of 10^-scale.
+#[derive(Drop)]
+pub struct ScaledObjective {
+    pub name: Name,
+    pub costs: Items<Term>,
+    /// How many decimal places values have.
+    pub scale: u32,
+    pub offset: i128,
+}
+
+/// The objective from its numbers, TooWide where a cost or the constant is beyond the limits.
+fn make_objective(
+    alloc: Global,
+    name: &[u8],
+    entries: &[Entry],
+    right: Decimal,
+) -> Result<ScaledObjective, LineFault>
+    requires name { name.now ≢ [] }
+    requires read { IsRowRead (row_said entries.now right None) }
+    ensures { Gives result (limited objective_within (objective_in_units name.now (row_said entries.now right None))) }
 {
-    is_behind(reader.columns().stretch()) && reader.rows().len() > 0
+    let scale = places_of(entries, right, None);
+    let Some(offset) = offset(right, scale) else {
+        return Err(LineFault::Broken(What::TooWide));
+    };
+    match terms(alloc, entries, scale) {
+        Ok(costs) => Ok(ScaledObjective {
+            name: make_name(alloc, name)?,
+            costs,
+            scale,
+            offset,
+        }),
+        Err(fault) => Err(fault),
+    }
+}
+
+/// The objective at a place, from its entries.
+fn objective_at(
+    alloc: Global,
+    reader: &Reader<'_>,
+    place: usize,
+    entries: &[Entry],
+) -> Result<ScaledObjective, LineFault>
+    requires place { place < length reader.now.rows }
+    requires coherent { IsCoherent reader.now }
+    requires name { (d : RowLine) → (slice_index_or reader.now.rows place d).name ≡ objective_in reader.now.rows }
+    requires entries { entries.now ≡ entries_of reader.now.columns.cells (objective_in reader.now.rows) }
+    ensures { Gives result (limited objective_within (objective_of reader.now)) }
+{
+    let name = reader.rows().name(place);
+    let right = or_zero(reader.rhs().number(name));
+    make_objective(alloc, name, entries, right)
+}
+
+/// Whether a column has both ends.
+fn has_ends(ends: Option<Ends>) -> bool
+    ensures { result ≡ has_ends (ends_or binary ends) }
+{
+    let ends = or_binary(ends);
+    ends.low.is_some() && ends.high.is_some()
+}
+
+/// Whether each column has both ends.
+fn are_bounded(ends: &[Option<Ends>]) -> bool
+    ensures { result ≡ are_bounded ends.now }
+{
+    ends.iter().all(|&end| has_ends(end))
+}
+
+/// Whether a column stands in a marker stretch, or has a card that says that it is whole.
+fn is_whole(in_stretch: bool, ends: Option<Ends>) -> bool
+    ensures { result ≡ (in_stretch || (ends_or binary ends).is_whole) }
+{
+    in_stretch || or_binary(ends).is_whole
+}
+
+/// Whether each column stands in a marker stretch, or has a card that says that it is whole.
+fn are_whole(ends: &[Option<Ends>], whole: &[bool]) -> bool
+    requires { length whole.now ≡ length ends.now }
+    ensures { result ≡ are_whole ends.now whole.now }
+{
+    for j in 0..ends.len() {
+        if !is_whole(whole[j], ends[j]) {
+            return false;
+        }
+    }
+    true
 }
 
 /// The ends that the cards of each column set.
 fn all_ends(alloc: Global, reader: &Reader<'_>) -> Result<Vec<Option<Ends>>, AllocError>
-    ensures { IfOk result (λ ends. ends.items ≡ map (ends_set reader.now.bounds.given) reader.now.columns.names) }
+    ensures { IfOk result (λ ends. ends.items ≡ all_ends reader.now) }
 {
     column_ends(alloc, reader.columns().names(), reader.bounds().cards())
 }
 
-/// The terms of each row, the objective's first.
-fn all_terms(alloc: Global, reader: &Reader<'_>) -> Result<Vec<Items<Term>>, AllocError>
-    ensures { IfOk result (λ terms. terms.items ≡ map (terms_of reader.now.columns.cells) (map (λ r. r.name) reader.now.rows)) }
+/// The entries of each row.
+fn all_entries(alloc: Global, reader: &Reader<'_>) -> Result<Vec<Items<Entry>>, AllocError>
+    ensures { IfOk result (λ entries. entries.items ≡ map (entries_of reader.now.columns.cells) (map (λ r. r.name) reader.now.rows)) }
 {
-    row_terms(alloc, reader.rows().names(), reader.columns().cells())
+    row_entries(alloc, reader.rows().names(), reader.columns().cells())
 }
 
-/// The objective's name.
-fn objective(alloc: Global, reader: &Reader<'_>) -> Result<Name, AllocError>
-    requires lines { AreRows reader.now.rows }
-    requires some { has_rows reader.now.rows ≡ true }
-    ensures { IfOk result (λ name. name ≡ objective_in reader.now.rows) }
-{
-    make_name(alloc, reader.rows().name(0))
-}
-
-/// The columns, from their ends and the terms of each row.
-fn all_columns(
+/// The problem, from its objective in units, the ends of its columns and the entries of its rows. TooWide where a
+/// number is beyond the limits.
+fn build(
     alloc: Global,
     reader: &Reader<'_>,
+    objective: ScaledObjective,
     ends: &[Option<Ends>],
-    terms: &[Items<Term>],
-) -> Result<Vec<Column>, AllocError>
+    entries: &[Items<Entry>],
+) -> Result<Problem, LineFault>
     requires coherent { IsCoherent reader.now }
-    requires some { has_rows reader.now.rows ≡ true }
-    requires ends { ends.now ≡ map (ends_set reader.now.bounds.given) reader.now.columns.names }
-    requires terms { terms.now ≡ map (terms_of reader.now.columns.cells) (map (λ r. r.name) reader.now.rows) }
-    ensures { IfOk result (λ columns. columns.items ≡ columns_of reader.now) }
+    requires some { has_objective reader.now.rows ≡ true }
+    requires objective { limited objective_within (objective_of reader.now) ≡ Ok objective }
+    requires ends { ends.now ≡ all_ends reader.now }
+    requires entries { entries.now ≡ map (entries_of reader.now.columns.cells) (map (λ r. r.name) reader.now.rows) }
+    ensures { Gives result (limited keeps_limits (program_of reader.now)) }
 {
-    make_columns(alloc, reader, ends, terms[0].as_slice())
+    match make_rows(alloc, reader, entries) {
+        Ok(rows) => {
+            let columns = make_columns(alloc, reader, ends, objective.costs.as_slice())?;
+            Ok(Problem::new(
+                columns,
+                rows.into_vec(),
+                objective.name,
+                objective.scale,
+                objective.offset,
+            ))
+        }
+        Err(fault) => Err(fault),
+    }
 }
 
-/// The problem that was said, or `Unbuilt` where the file as a whole breaks a rule.
-pub fn finish(alloc: Global, reader: &Reader<'_>) -> Result<Problem, ModelFault>
+/// The problem that was said, or the first rule that the file as a whole breaks.
+pub fn finish(alloc: Global, reader: &Reader<'_>) -> Result<Problem, LineFault>
     requires { IsCoherent reader.now }
-    ensures problem { Gives result (finished reader.now) }
-    ensures few { IfOk result (λ p. points_in (lows_of p.columns) (highs_of p.columns) ≤ 10000) }
+    ensures { Gives result (finished reader.now) }
 {
-    if !is_complete(reader) {
-        return Err(ModelFault::Unbuilt);
-    }
+    let Some(place) = reader.rows().objective() else {
+        return Err(LineFault::Broken(What::NoObjective));
+    };
     let ends = all_ends(alloc, reader)?;
+    if !are_whole(&ends, reader.columns().whole()) {
+        return Err(LineFault::Broken(What::NotWhole));
+    }
     if !are_bounded(&ends) {
-        return Err(ModelFault::Unbuilt);
+        return Err(LineFault::Broken(What::Unbounded));
     }
-    let terms = all_terms(alloc, reader)?;
-    let columns = all_columns(alloc, reader, &ends, &terms)?;
-    if count_points(&columns) > MOST_POINTS {
-        return Err(ModelFault::Unbuilt);
+    let entries = all_entries(alloc, reader)?;
+    match objective_at(alloc, reader, place, entries[place].as_slice()) {
+        Ok(objective) => build(alloc, reader, objective, &ends, &entries),
+        Err(fault) => Err(fault),
     }
-    let rows = make_rows(alloc, reader, &terms)?;
-    let objective = objective(alloc, reader)?;
-    Ok(Problem::new(columns, rows, objective, 0, 0))
 }

@@ -1,4 +1,34 @@
-//! The kinds of sections, rows and cards.
+//! The kinds of faults, sections, rows and cards.
+
+/// What is wrong with a line.
+#[derive(Clone, Copy, Debug, PartialEq, Eq)]
+pub enum What {
+    /// A section line that is unknown, repeated or out of order, or a data line where no section takes one.
+    Section,
+    /// Another number of words than the section's lines have, or an unknown kind of row or bound.
+    Words,
+    /// A number that is not spelled as one.
+    Number,
+    /// A number beyond the limits.
+    TooWide,
+    UnknownRow,
+    UnknownColumn,
+    /// A name or a number that stands already.
+    Twice,
+    /// A column that does not take whole numbers.
+    NotWhole,
+    /// A column without a low or a high end.
+    Unbounded,
+    /// A bound that is not a whole number.
+    FractionBound,
+    /// More than 1,000 columns, or rows with ends.
+    TooMany,
+    NoObjective,
+    /// A marker line that is not of the form, or out of order.
+    Marker,
+    /// No ENDATA line.
+    NoEnd,
+}
 
 /// A section of a file, in the order of a file. `Start` is before the first one.
 #[derive(Clone, Copy, Debug, PartialEq, Eq)]
@@ -8,37 +38,51 @@ pub enum Section {
     Rows,
     Columns,
     Rhs,
+    Ranges,
     Bounds,
     End,
 }
 
-/// Where a line of COLUMNS stands: ahead of the marker stretch of whole columns, inside or behind it.
-#[derive(Clone, Copy, Debug, PartialEq, Eq)]
-pub enum Stretch {
-    Ahead,
-    Inside,
-    Behind,
-}
-
-/// What a row is for: its kind is N, L, G or E.
+/// What a row is for: the first row of kind N is the objective, and the numbers of further ones are passed over.
 #[derive(Clone, Copy, Debug, PartialEq, Eq)]
 pub enum Role {
     Objective,
+    Extra,
     AtMost,
     AtLeast,
     Equal,
 }
 
-/// What a bound card sets: the high end (UP) or the low end (LO).
+/// What a bound card does.
 #[derive(Clone, Copy, Debug, PartialEq, Eq)]
 pub enum Act {
+    /// UP
     High,
+    /// LO
     Low,
+    /// FX
+    Both,
+    /// FR
+    Free,
+    /// MI
+    NoLow,
+    /// PL
+    NoHigh,
+    /// BV
+    Binary,
+    /// UI
+    WholeHigh,
+    /// LI
+    WholeLow,
 }
 
 /// The ends of a column, as far as its cards have set them.
 #[derive(Clone, Copy, Debug, PartialEq, Eq)]
 pub struct Ends {
-    pub low: i64,
+    pub low: Option<i64>,
     pub high: Option<i64>,
+    /// A card gave or took the low end: an upper bound that is negative then leaves it.
+    pub low_is_said: bool,
+    /// A card says that the column takes whole numbers.
+    pub is_whole: bool,
 }

@@ -1,12 +1,30 @@
-//! Laws of the definitions.
+//! What the reading comes to, in other words.
+ghost use Rattle.bl_mps.specs.Laws.{IsOne, RangesWiden, ScaleIsLeast, TellsFirstFault, TellsMeaning};
 
-ghost use Rattle.std.specs.Prelude.{◌≡◌, ℕ, List, Some};
-ghost use Rattle.bl_text.specs.Pieces.{lines_of};
-ghost use Rattle.bl_mps.specs.Said.{Said};
-ghost use Rattle.bl_mps.specs.Reading.{said_in};
-ghost use Rattle.bl_mps.specs.Sections.{IsReadBySections};
+/// Every file has a problem or a fault, and none has both.
+pub fn files_have_a_problem_or_a_fault()
+    ensures { IsOne }
+{}
 
-/// A file that is read says, section by section, what the data lines of that section say in turn.
-pub fn files_are_read_by_sections()
-    ensures { (bytes : List ℕ) (s : Said) → said_in bytes ≡ Some s → IsReadBySections (lines_of bytes) s }
+/// A fault that is told is the first: no line before it breaks a rule, and no rule that comes before it is broken by
+/// its line, or by the whole at the ENDATA line.
+pub fn faults_are_first()
+    ensures { TellsFirstFault }
+{}
+
+/// A problem that is read is the meaning of what the sections say, each by its own data lines in turn, and no line up
+/// to the ENDATA line breaks a rule.
+pub fn problems_are_what_the_sections_say()
+    ensures { TellsMeaning }
+{}
+
+/// A row with a range has two ends as far apart as the range's size, and its right side is the one that its kind and
+/// the range's sign say.
+pub fn ranges_widen_rows()
+    ensures { RangesWiden }
+{}
+
+/// The scale of a row, and of the objective, is the least power of ten that makes its numbers whole.
+pub fn scales_are_least()
+    ensures { ScaleIsLeast }
 {}

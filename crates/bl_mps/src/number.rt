@@ -1,52 +1,47 @@
-//! Whole numbers.
-ghost use Rattle.std.specs.Prelude.{◌≡◌, ◌≤◌, length, IsTrue};
-ghost use Rattle.std.specs.List.{list_all};
-ghost use Rattle.bl_num.specs.Decimals.{is_digit, whole_number};
-ghost use Rattle.bl_mps.specs.Lines.{digits_of, number_of};
+//! Numbers, by the rules of the lines.
+ghost use Rattle.std.specs.Prelude.{◌≡◌, ◌≤◌, ◌^◌, ◌*◌, IfOk, nat_lt, nat_abs};
+ghost use Rattle.bl_num.specs.Spellings.{IsWithinLimits};
+ghost use Rattle.bl_mps.specs.Lines.{number_at, bound_at};
+ghost use Rattle.bl_mps.specs.Views.{Gives};
 
-/// The number that a word spells: an optional minus, and 1 to 9 digits.
-pub fn number(word: &[u8]) -> Option<i64>
-    ensures { result ≡ number_of word.now }
+use crate::fault::LineFault;
+use crate::kind::What;
+use bl_num::{Decimal, NumberFault, read_decimal};
+
+/// The decimal that a word spells.
+pub fn number(word: &[u8]) -> Result<Decimal, LineFault>
+    ensures number { Gives result (number_at word.now) }
+    ensures limits { IfOk result IsWithinLimits }
 {
-    match word {
-        [] => None,
-        [b'-', digits @ ..] => Some(-i64::from(digits_value(digits)?)),
-        digits => Some(i64::from(digits_value(digits)?)),
+    match read_decimal(word) {
+        Ok(number) => Ok(number),
+        Err(NumberFault::Spelling) => Err(LineFault::Broken(What::Number)),
+        Err(NumberFault::TooWide) => Err(LineFault::Broken(What::TooWide)),
     }
 }
 
-fn is_digit(byte: u8) -> bool
-    ensures { result ≡ is_digit byte }
+/// Whether a number is beyond ±10^9.
+fn is_far(number: Decimal) -> bool
+    requires { number.places ≤ 27 }
+    ensures { result ≡ nat_lt (10 ^ 9 * 10 ^ number.places) (nat_abs number.mantissa) }
 {
-    48 <= byte && byte <= 57
+    1_000_000_000 * 10u128.pow(number.places) < number.mantissa.unsigned_abs()
 }
 
-// The number of 1 to 9 digits.
-fn digits_value(word: &[u8]) -> Option<u32>
-    ensures { result ≡ digits_of word.now }
+/// The whole number within ±10^9 that a word spells.
+pub fn bound(word: &[u8]) -> Result<i64, LineFault>
+    ensures { Gives result (bound_at word.now) }
 {
-    if 1 <= word.len() && word.len() <= 9 && are_digits(word) {
-        Some(whole_number(word))
-    } else {
-        None
+    match number(word) {
+        Ok(number) => {
+            if is_far(number) {
+                return Err(LineFault::Broken(What::TooWide));
+            }
+            if number.places > 0 {
+                return Err(LineFault::Broken(What::FractionBound));
+            }
+            Ok(number.mantissa as i64)
+        }
+        Err(fault) => Err(fault),
     }
-}
-
-fn are_digits(word: &[u8]) -> bool
-    ensures { result ≡ list_all is_digit word.now }
-{
-    word.iter().all(|&byte| is_digit(byte))
-}
-
-// The number that at most 9 digits spell.
-fn whole_number(digits: &[u8]) -> u32
-    requires few { length digits.now ≤ 9 }
-    requires digits { IsTrue (list_all is_digit digits.now) }
-    ensures { result ≡ whole_number digits.now }
-{
-    let mut number: u32 = 0;
-    for &digit in digits {
-        number = 10 * number + u32::from(digit - 48);
-    }
-    number
 }

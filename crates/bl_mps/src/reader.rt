@@ -1,16 +1,16 @@
 //! The reader, which takes the lines of a file in turn.
-ghost use Rattle.std.specs.Prelude.{◌≡◌, ◌<◌, ◌^◌, map, length, IfOk};
+ghost use Rattle.std.specs.Prelude.{◌≡◌, ◌+◌, ◌<◌, ◌^◌, map, length, IfOk};
 ghost use Rattle.bl_text.specs.Pieces.{lines_of, words_of};
 ghost use Rattle.bl_mps.specs.Said.{nothing_said};
 ghost use Rattle.bl_mps.specs.Lines.{data_line, section_line};
 ghost use Rattle.bl_mps.specs.Reading.{after_line, said_from, spoken, is_end};
-ghost use Rattle.bl_mps.specs.Views.{Follows};
+ghost use Rattle.bl_mps.specs.Views.{Follows, FollowsAll};
 
 use crate::bounds::Bounds;
 use crate::columns::Columns;
-use crate::fault::ModelFault;
-use crate::kind::Section;
-use crate::rhs::RightSides;
+use crate::fault::{LineFault, ModelFault};
+use crate::given::RowNumbers;
+use crate::kind::{Section, What};
 use crate::rows::Rows;
 use crate::section::{is_end, may_follow, section_of};
 use bl_text::{is_blank, lines, words};
@@ -23,7 +23,8 @@ pub struct Reader<'a> {
     section: Section,
     rows: Rows<'a>,
     columns: Columns<'a>,
-    rhs: RightSides<'a>,
+    rhs: RowNumbers<'a>,
+    ranges: RowNumbers<'a>,
     bounds: Bounds<'a>,
 }
 
@@ -32,7 +33,7 @@ impl<'a> Model for Reader<'a> {
 
     ghost Value = { Said };
 
-    ghost view = { λ r. record { section = r.section; rows = r.rows; columns = r.columns; rhs = r.rhs; bounds = r.bounds } };
+    ghost view = { λ r. record { section = r.section; rows = r.rows; columns = r.columns; rhs = r.rhs; ranges = r.ranges; bounds = r.bounds } };
 }
 
 /// The words of a line, in order.
@@ -55,7 +56,8 @@ impl<'a> Reader<'a> {
             section: Section::Start,
             rows: Rows::new(alloc),
             columns: Columns::new(alloc),
-            rhs: RightSides::new(alloc),
+            rhs: RowNumbers::new(alloc),
+            ranges: RowNumbers::new(alloc),
             bounds: Bounds::new(alloc),
         }
     }
@@ -72,10 +74,16 @@ impl<'a> Reader<'a> {
         &self.columns
     }
 
-    pub fn rhs(&self) -> &RightSides<'a>
+    pub fn rhs(&self) -> &RowNumbers<'a>
         ensures { result.now ≡ self.now.rhs }
     {
         &self.rhs
+    }
+
+    pub fn ranges(&self) -> &RowNumbers<'a>
+        ensures { result.now ≡ self.now.ranges }
+    {
+        &self.ranges
     }
 
     pub fn bounds(&self) -> &Bounds<'a>
@@ -92,20 +100,21 @@ impl<'a> Reader<'a> {
     }
 
     /// Takes the words of a data line of the section that is open.
-    fn data_line(&mut self, words: &[&'a [u8]]) -> Result<(), ModelFault>
+    fn data_line(&mut self, words: &[&'a [u8]]) -> Result<(), LineFault>
         ensures { Follows result (data_line self.old.section self.old (map (λ w. w.now) words.now)) self.new }
     {
         match self.section {
-            Section::Start | Section::Name | Section::End => Err(ModelFault::Unbuilt),
+            Section::Start | Section::Name | Section::End => Err(LineFault::Broken(What::Section)),
             Section::Rows => self.rows.line(words),
             Section::Columns => self.columns.line(&self.rows, words),
-            Section::Rhs => self.rhs.line(&self.rows, words),
+            Section::Rhs => self.rhs.line(false, &self.rows, words),
+            Section::Ranges => self.ranges.line(true, &self.rows, words),
             Section::Bounds => self.bounds.line(self.columns.names(), words),
         }
     }
 
     /// Opens the section that a section line names.
-    fn section_line(&mut self, word: &[u8]) -> Result<(), ModelFault>
+    fn section_line(&mut self, word: &[u8]) -> Result<(), LineFault>
         ensures { Follows result (section_line self.old word.now) self.new }
     {
         match section_of(word) {
@@ -113,12 +122,12 @@ impl<'a> Reader<'a> {
                 self.section = next;
                 Ok(())
             }
-            _ => Err(ModelFault::Unbuilt),
+            _ => Err(LineFault::Broken(What::Section)),
         }
     }
 
     /// Takes the words of a line that is no comment.
-    fn spoken(&mut self, is_data: bool, words: &[&'a [u8]]) -> Result<(), ModelFault>
+    fn spoken(&mut self, is_data: bool, words: &[&'a [u8]]) -> Result<(), LineFault>
         ensures { Follows result (spoken self.old is_data (map (λ w. w.now) words.now)) self.new }
     {
         match words {
@@ -135,37 +144,48 @@ impl<'a> Reader<'a> {
 
     /// Takes a line.
     #[tactic(auto, unfolding(crate::specs::Reading::after_line))]
-    fn line(&mut self, alloc: Global, line: &'a [u8]) -> Result<(), ModelFault>
+    fn line(&mut self, alloc: Global, line: &'a [u8]) -> Result<(), LineFault>
         ensures { Follows result (after_line self.old line.now) self.new }
     {
         match line {
             [] | [b'*', ..] => Ok(()),
-            [first, ..] => {
-                let words = all_words(alloc, line)?;
-                self.spoken(is_blank(*first), &words)
-            }
+            [first, ..] => match all_words(alloc, line) {
+                Ok(words) => self.spoken(is_blank(*first), &words),
+                Err(_) => Err(LineFault::Memory),
+            },
         }
     }
 
-    /// Takes the lines of a file, up to the ENDATA line or to the first line that breaks a rule.
-    pub fn file(&mut self, alloc: Global, bytes: &'a [u8]) -> Result<(), ModelFault>
-        requires { length bytes.now < 2 ^ 32 }
-        ensures { Follows result (said_from self.old (lines_of bytes.now)) self.new }
+    /// Takes the lines of a file, up to the ENDATA line or to the first fault. Gives the number of the ENDATA line.
+    pub fn file(&mut self, alloc: Global, bytes: &'a [u8]) -> Result<u32, ModelFault>
+        requires { length bytes.now + 1 < 2 ^ 32 }
+        ensures { FollowsAll result (said_from 0 self.old (lines_of bytes.now)) self.new }
     {
         let mut walk = lines(bytes);
+        let mut last = 0;
         while let Some(line) = walk.next() {
             if self.is_done() {
-                return Ok(());
+                return Ok(last);
             }
             match self.line(alloc, line.bytes) {
                 Ok(()) => {}
-                Err(fault) => return Err(fault),
+                Err(LineFault::Memory) => return Err(ModelFault::Memory),
+                Err(LineFault::Broken(what)) => {
+                    return Err(ModelFault::At {
+                        line: line.number,
+                        what,
+                    });
+                }
             }
+            last = line.number;
         }
         if self.is_done() {
-            Ok(())
+            Ok(last)
         } else {
-            Err(ModelFault::Unbuilt)
+            Err(ModelFault::At {
+                line: last + 1,
+                what: What::NoEnd,
+            })
         }
     }
 }

@@ -17,6 +17,8 @@ pub fn section_of(word: &[u8]) -> Option<Section>
         Some(Section::Columns)
     } else if word == b"RHS".as_slice() {
         Some(Section::Rhs)
+    } else if word == b"RANGES".as_slice() {
+        Some(Section::Ranges)
     } else if word == b"BOUNDS".as_slice() {
         Some(Section::Bounds)
     } else if word == b"ENDATA".as_slice() {
@@ -36,8 +38,14 @@ pub fn may_follow(now: Section, next: Section) -> bool
         Section::Rows => matches!(now, Section::Name),
         Section::Columns => matches!(now, Section::Rows),
         Section::Rhs => matches!(now, Section::Columns),
-        Section::Bounds => matches!(now, Section::Columns | Section::Rhs),
-        Section::End => matches!(now, Section::Columns | Section::Rhs | Section::Bounds),
+        Section::Ranges => matches!(now, Section::Columns | Section::Rhs),
+        Section::Bounds => matches!(now, Section::Columns | Section::Rhs | Section::Ranges),
+        Section::End => {
+            matches!(
+                now,
+                Section::Columns | Section::Rhs | Section::Ranges | Section::Bounds
+            )
+        }
     }
 }
 

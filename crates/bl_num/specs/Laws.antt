@@ -21,6 +21,10 @@ RefusesOthers = (text : List ℕ) → ((s : Spelled) → ¬ (IsSpelling s text))
 abbrev pub CanonicalIsOne : Type 0
 CanonicalIsOne = (a b : Decimal) → IsCanonical a → IsCanonical b → a.mantissa *ℤ pos (10 ^ b.places) ≡ b.mantissa *ℤ pos (10 ^ a.places) → a ≡ b
 
+-- what a text reads as is canonical and within the limits
+abbrev pub ReadsCanonically : Type 0
+ReadsCanonically = (text : List ℕ) (d : Decimal) → decimal_of text ≡ Ok d → IsCanonical d × IsWithinLimits d
+
 -- m units of 10 ^ -places are the value of the decimal
 abbrev pub UnitsKeepValue : Type 0
 UnitsKeepValue = (d : Decimal) (places : ℕ) → d.places ≤ places → in_units d places *ℤ pos (10 ^ d.places) ≡ d.mantissa *ℤ pos (10 ^ places)

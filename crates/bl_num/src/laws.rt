@@ -1,5 +1,5 @@
 //! What reading, writing and rounding come to.
-ghost use Rattle.bl_num.specs.Laws.{CanonicalIsOne, ReadsSpelled, RefusesOthers, UnitsKeepValue};
+ghost use Rattle.bl_num.specs.Laws.{CanonicalIsOne, ReadsCanonically, ReadsSpelled, RefusesOthers, UnitsKeepValue};
 ghost use Rattle.bl_num.specs.Laws.{CanonicalReadsBack, ReadsWithinLimits, WritesReadably};
 ghost use Rattle.bl_num.specs.Laws.{CeilingIsLeast, FloorIsGreatest};
 
@@ -9,6 +9,11 @@ pub fn spelled_texts_read_as_their_values()
     ensures spelled { ReadsSpelled }
     ensures others { RefusesOthers }
     ensures one { CanonicalIsOne }
+{}
+
+/// What a text reads as is canonical and within the limits.
+pub fn read_numbers_are_canonical()
+    ensures { ReadsCanonically }
 {}
 
 /// A decimal in finer units has the same value.

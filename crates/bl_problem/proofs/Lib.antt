@@ -1,2 +1,5 @@
 pub mod Limits
 pub mod Boxes
+pub mod Trivial
+pub mod Narrowed
+pub mod Counts

@@ -2,3 +2,5 @@ pub mod Sums
 pub mod Rows
 pub mod Program
 pub mod Points
+pub mod Cuts
+pub mod Decisions

@@ -1,5 +1,6 @@
 -- The points of an integer program: which are feasible, and their values.
 use Rattle.std.specs.Prelude.{ℕ, suc, ◌*◌, List, [], ◌∷◌, length, ℤ, ◌+ℤ◌, ◌-ℤ◌, ◌*ℤ◌, ◌≤ℤ◌, All, map, int_lt, unsigned_abs, if◌then◌else◌}
+use Rattle.std.specs.Int.{int_min}
 use Rattle.bl_num.specs.Exact.{at, sum_below}
 use Rattle.bl_problem.specs.Program.{Program}
 use Rattle.bl_problem.specs.Rows.{MeetsRow}
@@ -31,6 +32,18 @@ pub record IsFeasible (p : Program) (x : List ℤ) : Type 0 where
 -- the offset and the sum of cost times entry: less is better
 abbrev pub value_of : Program → List ℤ → ℤ
 value_of p x = p.offset +ℤ sum_below (length p.columns) (λ j. at (costs_of p.columns) j *ℤ at x j)
+
+-- the problem's own bounds
+abbrev pub own_lows : Program → List ℤ
+own_lows p = lows_of p.columns
+
+abbrev pub own_highs : Program → List ℤ
+own_highs p = highs_of p.columns
+
+-- the bound that a box alone gives: the offset, and for each column the lesser of cost times low and cost times high
+abbrev pub trivial_bound_of : Program → List ℤ → List ℤ → ℤ
+trivial_bound_of p lows highs =
+    p.offset +ℤ sum_below (length p.columns) (λ j. int_min (at (costs_of p.columns) j *ℤ at lows j) (at (costs_of p.columns) j *ℤ at highs j))
 
 -- how many whole numbers are from low to high
 abbrev pub width_of : ℤ → ℤ → ℕ

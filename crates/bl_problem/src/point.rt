@@ -1,5 +1,6 @@
 // Whether a point lies in the box and meets the rows.
 ghost use Rattle.std.specs.Prelude.{◌≡◌, ◌≤◌, ◌^◌, ◌↔◌, ◌≤ℤ◌, ◌+ℤ◌, ◌*ℤ◌, length, All, IsTrue};
+ghost use Rattle.std.specs.Int.{int_min};
 ghost use Rattle.bl_num.specs.Exact.{at, sum_below};
 ghost use Rattle.bl_problem.specs.Sums.{IsWithin, sum_of_terms};
 ghost use Rattle.bl_problem.specs.Rows.{AreTerms, MeetsLow, MeetsHigh, MeetsRow};
@@ -35,6 +36,25 @@ pub fn value_sum(columns: &[Column], offset: i128, point: &[i64]) -> i128
     let mut sum = offset;
     for j in 0..columns.len() {
         sum += product(columns[j].cost, point[j]);
+    }
+    sum
+}
+
+// The offset and the exact sum of the lesser of cost times low and cost times high.
+pub fn least_sum(columns: &[Column], offset: i128, lows: &[i64], highs: &[i64]) -> i128
+    requires low_width { length lows.now ≡ length columns.now }
+    requires high_width { length highs.now ≡ length columns.now }
+    requires few { length columns.now ≤ 1000 }
+    requires columns { All IsColumn columns.now }
+    requires offset { IsWithin (10 ^ 24) offset }
+    requires low_near { All (IsWithin (10 ^ 9)) lows.now }
+    requires high_near { All (IsWithin (10 ^ 9)) highs.now }
+    ensures { result ≡ offset +ℤ sum_below (length columns.now) (λ j. int_min (at (costs_of columns.now) j *ℤ at lows.now j) (at (costs_of columns.now) j *ℤ at highs.now j)) }
+{
+    let mut sum = offset;
+    for j in 0..columns.len() {
+        let cost = columns[j].cost;
+        sum += product(cost, lows[j]).min(product(cost, highs[j]));
     }
     sum
 }

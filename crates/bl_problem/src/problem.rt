@@ -1,9 +1,9 @@
 //! The integer program that is solved.
-ghost use Rattle.std.specs.Prelude.{◌≡◌, ◌≤◌, ◌^◌, ◌↔◌, length, All, IsTrue};
+ghost use Rattle.std.specs.Prelude.{◌≡◌, ◌≤◌, ◌^◌, ◌↔◌, ◌≤ℤ◌, ℤ, List, length, All, IsTrue};
 ghost use Rattle.bl_problem.specs.Sums.{IsWithin};
 
 use crate::name::Name;
-use crate::point::{is_in_box, meets_rows, value_sum};
+use crate::point::{is_in_box, least_sum, meets_rows, value_sum};
 use bl_mods::Items;
 use std::marker::Model;
 
@@ -61,7 +61,7 @@ impl Model for Problem {
 
 impl Problem {
     ghost use Rattle.bl_problem.specs.Program.{IsProgram};
-    ghost use Rattle.bl_problem.specs.Points.{IsFeasible, value_of};
+    ghost use Rattle.bl_problem.specs.Points.{InBox, IsFeasible, value_of, trivial_bound_of};
 
     /// The problem of these parts. Takes no memory.
     pub fn new(
@@ -134,5 +134,17 @@ impl Problem {
         ensures { IsTrue result ↔ IsFeasible self.now point.now }
     {
         is_in_box(self.columns(), point) && meets_rows(self.rows(), point)
+    }
+
+    /// The bound that a box of one low and one high for each column gives, in units of 10^-scale: the offset, and for each column the lesser of cost times low and cost times high.
+    pub fn trivial_bound(&self, lows: &[i64], highs: &[i64]) -> i128
+        requires low_width { length lows.now ≡ length self.now.columns }
+        requires high_width { length highs.now ≡ length self.now.columns }
+        requires low_near { All (IsWithin (10 ^ 9)) lows.now }
+        requires high_near { All (IsWithin (10 ^ 9)) highs.now }
+        ensures exact { result ≡ trivial_bound_of self.now lows.now highs.now }
+        ensures below { (x : List ℤ) → InBox lows.now highs.now x → result ≤ℤ value_of self.now x }
+    {
+        least_sum(self.columns(), self.offset, lows, highs)
     }
 }

@@ -1,3 +1,4 @@
-pub mod Numbers
-pub mod Boxes
 pub mod Lines
+pub mod Putting
+pub mod Turns
+pub mod Answered

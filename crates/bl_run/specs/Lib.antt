@@ -1,4 +1,5 @@
-pub mod Numbering
-pub mod Answers
+pub mod Words
+pub mod Work
+pub mod Searches
 pub mod Texts
 pub mod Runs

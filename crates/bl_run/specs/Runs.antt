@@ -1,48 +1,96 @@
 -- What a run did: each status has its cause.
-use Rattle.std.specs.Prelude.{◌≡◌, ◌⊎◌, ◌+◌, ℕ, List, Some, None}
+use Rattle.std.specs.Prelude.{◌≡◌, ◌⊎◌, ◌+◌, ℕ, Bool, List, Some, Ok, Err, reverse}
 use Rattle.std.specs.declared.option.Option.{Option}
+use Rattle.std.specs.declared.alloc.Global.{Global}
+use Rattle.std.specs.declared.string.String.{String}
 use Rattle.std.specs.Io.KnownBytes.{Appends}
 use Rattle.bl_io.specs.Streams.{IsWhole, Takes, AppendsPrefix}
 use Rattle.bl_io.specs.Causes.{Rose}
 use Rattle.bl_problem.specs.Program.{Program}
-use Rattle.bl_run.specs.declared.search.Answer.{Answer}
-use Rattle.bl_run.specs.Answers.{IsAnswer}
-use Rattle.bl_mps.specs.Reading.{problem_of}
-use Rattle.bl_run.specs.Texts.{answer_text}
+use Rattle.bl_mps.specs.Reading.{read_of, Fault}
+use Rattle.bl_journal.specs.declared.entry.Entry.{Entry}
+use Rattle.bl_journal.specs.Kept.{Kept}
+use Rattle.bl_journal.specs.Results.{answer_of, IsTrueFor}
+use Rattle.bl_run.specs.declared.run.Answered.{Answered}
+use Rattle.bl_run.specs.declared.run.Stop.{Stop}
+use Rattle.bl_run.specs.declared.run.Stop.TheVariants.{Words, TooLong, Model, Read, Memory}
+use Rattle.bl_run.specs.Words.{MeansNodes}
+use Rattle.bl_run.specs.Searches.{settings_of, IsEndedHistory}
+use Rattle.bl_run.specs.Texts.{verdict_text, model_line, long_line}
 
 abbrev pub most_bytes : ℕ
 most_bytes = 8388608
 
--- the source was read to its end, its bytes mean a problem, and the text is that of its answer
-pub record IsAnswered (before now : Option (List ℕ)) (text : List ℕ) : Type 0 where
+-- the words are accepted, the source was read to its end and its bytes mean a problem; a search of its tree has ended,
+-- and the text is that of its answer, which is true
+pub record IsAnswered (words : List (String Global)) (before now : Option (List ℕ)) (limited : Bool) (history : List Entry) (text : List ℕ) : Type 0 where
+  pub nodes : ℕ
+  pub meant : MeansNodes words nodes
   pub bytes : List ℕ
   pub whole : IsWhole before now most_bytes bytes
   pub problem : Program
-  pub reads : problem_of bytes ≡ Some problem
-  pub answer : Answer
-  pub answers : IsAnswer problem answer
-  pub is : text ≡ answer_text problem answer
+  pub reads : read_of bytes ≡ Ok problem
+  pub ended : IsEndedHistory problem (settings_of nodes) limited history
+  pub is_true : IsTrueFor problem (answer_of problem (reverse history))
+  pub is : text ≡ verdict_text problem (answer_of problem (reverse history))
 
--- the source was read to its end, and its bytes mean no problem
-pub record IsRefused (before now : Option (List ℕ)) : Type 0 where
+-- the source was read to its end, and its bytes mean this problem
+pub record IsRead (before now : Option (List ℕ)) (problem : Program) : Type 0 where
   pub bytes : List ℕ
   pub whole : IsWhole before now most_bytes bytes
-  pub reads : problem_of bytes ≡ None
+  pub reads : read_of bytes ≡ Ok problem
 
--- one byte past the limit was read, or all the bytes, and they mean no problem
-pub data IsUnreadable (before now : Option (List ℕ)) : Type 0 where
-  is_too_long : Takes before now (most_bytes + 1) → IsUnreadable before now
-  is_refused : IsRefused before now → IsUnreadable before now
+-- a search of the problem's tree has ended, and the text is that of its answer, which is true
+pub record IsSolved (problem : Program) (nodes : ℕ) (answered : Answered) : Type 0 where
+  pub ended : IsEndedHistory problem (settings_of nodes) answered.limited answered.journal.entries
+  pub is_true : IsTrueFor problem (answer_of problem (reverse answered.journal.entries))
+  pub is : answered.text.items ≡ verdict_text problem (answer_of problem (reverse answered.journal.entries))
 
--- the answer to what was read was written whole
-abbrev pub WritesAnswer : Option (List ℕ) → Option (List ℕ) → Option (List ℕ) → Option (List ℕ) → Type 0
-WritesAnswer left left' kept kept' = (text : List ℕ) × IsAnswered left left' text × Appends kept kept' text
+-- the source was read to its end, its bytes have a fault, and the line tells the first one
+pub record IsRefused (before now : Option (List ℕ)) (line : List ℕ) : Type 0 where
+  pub bytes : List ℕ
+  pub whole : IsWhole before now most_bytes bytes
+  pub fault : Fault
+  pub reads : read_of bytes ≡ Err fault
+  pub tells : line ≡ model_line fault
 
--- a prefix of the answer to what was read was written
-abbrev pub WritesPart : Option (List ℕ) → Option (List ℕ) → Option (List ℕ) → Option (List ℕ) → Type 0
-WritesPart left left' kept kept' = (text : List ℕ) × IsAnswered left left' text × AppendsPrefix kept kept' text
+-- one byte past the limit was read, or all the bytes, and they mean no problem; and the line tells it
+pub data IsUnreadable (before now : Option (List ℕ)) (line : List ℕ) : Type 0 where
+  is_too_long : Takes before now (most_bytes + 1) → line ≡ long_line → IsUnreadable before now line
+  is_refused : IsRefused before now line → IsUnreadable before now line
+
+-- the answer was written whole, and the journal is that of the search
+pub record WritesAnswer (words : List (String Global)) (limited : Bool) (journal : Option Kept) (left left' kept kept' : Option (List ℕ)) : Type 0 where
+  pub stands : Kept
+  pub journal_is : journal ≡ Some stands
+  pub text : List ℕ
+  pub answered : IsAnswered words left left' limited stands.entries text
+  pub written : Appends kept kept' text
+
+-- a prefix of the answer was written, and the journal is that of the search
+pub record WritesPart (words : List (String Global)) (journal : Option Kept) (left left' kept kept' : Option (List ℕ)) : Type 0 where
+  pub limited : Bool
+  pub stands : Kept
+  pub journal_is : journal ≡ Some stands
+  pub text : List ℕ
+  pub answered : IsAnswered words left left' limited stands.entries text
+  pub written : AppendsPrefix kept kept' text
 
 -- a prefix of the line was written, and the whole line unless the sink failed
 pub record WritesLine (kept kept' : Option (List ℕ)) (faults faults' : ℕ) (line : List ℕ) : Type 0 where
   pub part : AppendsPrefix kept kept' line
   pub whole : Appends kept kept' line ⊎ Rose faults faults'
+
+-- why a file was not read, and the line that tells it
+pub record TellsModel (left left' kept kept' : Option (List ℕ)) (faults faults' : ℕ) : Type 0 where
+  pub line : List ℕ
+  pub unreadable : IsUnreadable left left' line
+  pub written : WritesLine kept kept' faults faults' line
+
+-- why there is no answer
+abbrev pub HasReason : Option (List ℕ) → Option (List ℕ) → ℕ → ℕ → Stop → Type 0
+HasReason left left' faults faults' Words = Unit {0}
+HasReason left left' faults faults' TooLong = Takes left left' (most_bytes + 1)
+HasReason left left' faults faults' (Model line what) = IsRefused left left' (model_line (record { line = line; what = what }))
+HasReason left left' faults faults' Read = Rose faults faults'
+HasReason left left' faults faults' Memory = Unit {0}

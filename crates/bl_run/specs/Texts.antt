@@ -1,10 +1,14 @@
 -- The texts that a run writes.
-use Rattle.std.specs.Prelude.{ℕ, List, [], ◌∷◌, ◌++◌, ℤ, codes, ◌==◌, if◌then◌else◌}
+use Rattle.std.specs.Prelude.{ℕ, List, [], ◌∷◌, ◌++◌, ℤ, pos, codes, ◌==◌, if◌then◌else◌, Option, Some, None}
 use Rattle.std.specs.Fmt.{signed_decimal}
+use Rattle.bl_num.specs.Texts.{text_of}
 use Rattle.bl_problem.specs.declared.problem.Column.{Column}
 use Rattle.bl_problem.specs.Program.{Program}
-use Rattle.bl_run.specs.declared.search.Answer.{Answer}
-use Rattle.bl_run.specs.declared.search.Answer.TheVariants.{Optimal, Infeasible}
+use Rattle.bl_mps.specs.declared.kind.What.{What}
+use Rattle.bl_mps.specs.declared.kind.What.TheVariants.{Section, Words, Number, TooWide, UnknownRow, UnknownColumn, Twice, NotWhole, Unbounded, FractionBound, TooMany, NoObjective, Marker, NoEnd}
+use Rattle.bl_mps.specs.Reading.{Fault}
+use Rattle.bl_journal.specs.States.{Found}
+use Rattle.bl_journal.specs.Results.{Verdict, optimal, infeasible, bounded}
 
 -- `col NAME v`
 abbrev pub column_line : Column → ℤ → List ℕ
@@ -16,15 +20,47 @@ column_lines [] point = []
 column_lines (c ∷ columns) [] = []
 column_lines (c ∷ columns) (v ∷ point) = column_line c v ++ column_lines columns point
 
--- the lines of the answer
-abbrev pub answer_text : Program → Answer → List ℕ
-answer_text p (Optimal b) = codes "status optimal\nobjective " ++ signed_decimal b.value ++ codes "\n" ++ column_lines p.columns b.point ++ codes "end\n"
-answer_text p Infeasible = codes "status infeasible\nend\n"
+-- `objective V` and the columns' lines
+abbrev pub found_lines : Program → Found → List ℕ
+found_lines p f = codes "objective " ++ (text_of f.value p.scale ++ codes "\n") ++ column_lines p.columns f.point
 
--- the line of a status that comes with no answer
+abbrev pub best_lines : Program → Option Found → List ℕ
+best_lines p None = codes "objective none\n"
+best_lines p (Some f) = found_lines p f
+
+-- the lines of an answer
+abbrev pub verdict_text : Program → Verdict → List ℕ
+verdict_text p (optimal f) = codes "status optimal\n" ++ found_lines p f ++ codes "end\n"
+verdict_text p infeasible = codes "status infeasible\n" ++ codes "end\n"
+verdict_text p (bounded bound f) = codes "status limit\nbound " ++ (text_of bound p.scale ++ codes "\n") ++ best_lines p f ++ codes "end\n"
+
+-- the name of a broken rule
+abbrev pub what_name : What → List ℕ
+what_name Section = codes "Section"
+what_name Words = codes "Words"
+what_name Number = codes "Number"
+what_name TooWide = codes "TooWide"
+what_name UnknownRow = codes "UnknownRow"
+what_name UnknownColumn = codes "UnknownColumn"
+what_name Twice = codes "Twice"
+what_name NotWhole = codes "NotWhole"
+what_name Unbounded = codes "Unbounded"
+what_name FractionBound = codes "FractionBound"
+what_name TooMany = codes "TooMany"
+what_name NoObjective = codes "NoObjective"
+what_name Marker = codes "Marker"
+what_name NoEnd = codes "NoEnd"
+
+-- the line that tells a file's first fault
+abbrev pub model_line : Fault → List ℕ
+model_line f = codes "fault model line " ++ signed_decimal (pos f.line) ++ codes " " ++ what_name f.what ++ codes "\n"
+
+abbrev pub long_line : List ℕ
+long_line = codes "fault model long\n"
+
+-- the line of a status that comes with no answer and no file
 abbrev pub fault_line : ℕ → List ℕ
 fault_line status =
     if status == 2 then codes "fault words\n" else
-    if status == 3 then codes "fault model unbuilt\n" else
     if status == 4 then codes "fault read\n" else
     codes "fault memory\n"

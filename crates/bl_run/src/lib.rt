@@ -1,10 +1,12 @@
-//! The top call: it reads a problem, looks for its best point and writes the answer.
+//! The top call: it reads a problem, searches its tree and writes the answer.
 #![tactic(auto)]
 
+mod node;
 mod report;
 mod run;
 mod search;
 #[cfg(test)]
 mod tests;
+mod words;
 
 pub use run::{Ended, run_one};

@@ -1,28 +1,82 @@
 //! The text of an answer.
-ghost use Rattle.std.specs.Prelude.{◌≡◌, ◌++◌, length, codes, IfOk, OnOk};
+ghost use Rattle.std.specs.Prelude.{◌≡◌, ◌++◌, ◌≤◌, length, codes, IfOk, OnOk};
 ghost use Rattle.std.specs.Fmt.{signed_decimal};
-ghost use Rattle.bl_run.specs.Texts.{column_lines, column_line, answer_text};
+ghost use Rattle.bl_num.specs.Texts.{text_of};
+ghost use Rattle.bl_tree.specs.Answers.{verdict_of, found_if};
+ghost use Rattle.bl_run.specs.Texts.{column_lines, column_line, found_lines, best_lines, verdict_text, model_line, what_name};
 
-use crate::search::Answer;
+use bl_mps::What;
+use bl_num::decimal_text;
 use bl_problem::{Column, Problem};
+use bl_tree::{Answer, Best};
 use std::alloc::{AllocError, Global};
 
-/// The lines of an answer.
-pub fn answer_text(alloc: Global, problem: &Problem, answer: &Answer) -> Result<Vec<u8>, AllocError>
-    ensures { IfOk result (λ text. text.items ≡ answer_text problem.now answer.now) }
+/// The lines of an answer. `AllocError` where there is no memory.
+pub fn answer_text(
+    alloc: Global,
+    problem: &Problem,
+    answer: &Answer<'_>,
+) -> Result<Vec<u8>, AllocError>
+    ensures { IfOk result (λ text. text.items ≡ verdict_text problem.now (verdict_of answer.now)) }
 {
     let mut text = Vec::new(alloc);
     match answer {
-        Answer::Optimal(best) => {
-            text.extend_from_slice(b"status optimal\nobjective ")?;
-            push_number(alloc, &mut text, best.value)?;
-            text.extend_from_slice(b"\n")?;
-            push_columns(alloc, &mut text, problem.columns(), best.point.as_slice())?;
-            text.extend_from_slice(b"end\n")?;
+        Answer::Optimal { value, point } => {
+            text.extend_from_slice(b"status optimal\n")?;
+            push_found(alloc, &mut text, problem, *value, point)?;
         }
-        Answer::Infeasible => text.extend_from_slice(b"status infeasible\nend\n")?,
+        Answer::Infeasible => text.extend_from_slice(b"status infeasible\n")?,
+        Answer::Bounded { bound, best } => {
+            text.extend_from_slice(b"status limit\nbound ")?;
+            push_value(alloc, &mut text, problem, *bound)?;
+            push_best(alloc, &mut text, problem, best)?;
+        }
     }
+    text.extend_from_slice(b"end\n")?;
     Ok(text)
+}
+
+fn push_best(
+    alloc: Global,
+    text: &mut Vec<u8>,
+    problem: &Problem,
+    best: &Option<Best<'_>>,
+) -> Result<(), AllocError>
+    ensures { OnOk result (text.new.items ≡ text.old.items ++ best_lines problem.now (found_if best.now)) }
+{
+    match best {
+        None => text.extend_from_slice(b"objective none\n"),
+        Some(best) => push_found(alloc, text, problem, best.value, best.point),
+    }
+}
+
+fn push_found(
+    alloc: Global,
+    text: &mut Vec<u8>,
+    problem: &Problem,
+    value: i128,
+    point: &[i64],
+) -> Result<(), AllocError>
+    ensures { OnOk result (text.new.items ≡ text.old.items ++ found_lines problem.now (record { value = value; point = point.now })) }
+{
+    text.extend_from_slice(b"objective ")?;
+    push_value(alloc, text, problem, value)?;
+    push_columns(alloc, text, problem.columns(), point)
+}
+
+// A value in units of 10^-scale, and a line feed.
+fn push_value(
+    alloc: Global,
+    text: &mut Vec<u8>,
+    problem: &Problem,
+    value: i128,
+) -> Result<(), AllocError>
+    ensures { OnOk result (text.new.items ≡ text.old.items ++ text_of value problem.now.scale ++ codes "\n") }
+{
+    let _columns = problem.columns();
+    let number = decimal_text(alloc, value, problem.scale())?;
+    text.extend_from_slice(&number)?;
+    text.extend_from_slice(b"\n")
 }
 
 fn push_columns(
@@ -50,13 +104,48 @@ fn push_column(
     text.extend_from_slice(b"col ")?;
     text.extend_from_slice(column.name.bytes())?;
     text.extend_from_slice(b" ")?;
-    push_number(alloc, text, i128::from(entry))?;
+    push_number(alloc, text, entry)?;
     text.extend_from_slice(b"\n")
 }
 
-fn push_number(alloc: Global, text: &mut Vec<u8>, number: i128) -> Result<(), AllocError>
+fn push_number(alloc: Global, text: &mut Vec<u8>, number: i64) -> Result<(), AllocError>
     ensures { OnOk result (text.new.items ≡ text.old.items ++ signed_decimal number) }
 {
     let digits = format!(in alloc; "{number}")?;
     text.extend_from_slice(digits.as_bytes())
+}
+
+/// The line that tells a file's first fault: `fault model line L WHAT`. `AllocError` where there is no memory.
+pub fn model_line(alloc: Global, line: u32, what: What) -> Result<Vec<u8>, AllocError>
+    ensures { IfOk result (λ text. text.items ≡ model_line (record { line = line; what = what })) }
+{
+    let mut text = Vec::new(alloc);
+    text.extend_from_slice(b"fault model line ")?;
+    push_number(alloc, &mut text, i64::from(line))?;
+    text.extend_from_slice(b" ")?;
+    text.extend_from_slice(name_of(what))?;
+    text.extend_from_slice(b"\n")?;
+    Ok(text)
+}
+
+// The name of a broken rule.
+fn name_of(what: What) -> &'static [u8]
+    ensures { result.now ≡ what_name what }
+{
+    match what {
+        What::Section => b"Section",
+        What::Words => b"Words",
+        What::Number => b"Number",
+        What::TooWide => b"TooWide",
+        What::UnknownRow => b"UnknownRow",
+        What::UnknownColumn => b"UnknownColumn",
+        What::Twice => b"Twice",
+        What::NotWhole => b"NotWhole",
+        What::Unbounded => b"Unbounded",
+        What::FractionBound => b"FractionBound",
+        What::TooMany => b"TooMany",
+        What::NoObjective => b"NoObjective",
+        What::Marker => b"Marker",
+        What::NoEnd => b"NoEnd",
+    }
 }

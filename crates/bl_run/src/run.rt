@@ -1,21 +1,28 @@
 //! The run of the program.
-ghost use Rattle.std.specs.Prelude.{◌≡◌, ◌≢◌, ◌+◌, ◌≤◌, ◌<◌, ◌↔◌, length, IfOk, IfErr, OnOk, OnErr, IsErrOf};
+ghost use Rattle.std.specs.Prelude.{◌≡◌, ◌≢◌, ◌+◌, ◌≤◌, ◌<◌, ◌↔◌, ◌⊎◌, false, true, None, length, IfOk, IfErr, OnOk, OnErr, IsErrOf};
 ghost use Rattle.std.specs.Io.KnownBytes.{Appends};
 ghost use Rattle.bl_io.specs.Causes.{Rose, HasCause};
 ghost use Rattle.bl_io.specs.Streams.{AppendsPrefix};
-ghost use Rattle.bl_run.specs.Texts.{fault_line};
-ghost use Rattle.bl_run.specs.Runs.{IsAnswered, IsUnreadable, WritesAnswer, WritesPart, WritesLine};
+ghost use Rattle.bl_run.specs.Words.{MeansNothing};
+ghost use Rattle.bl_run.specs.Texts.{fault_line, model_line};
+ghost use Rattle.bl_run.specs.Runs.{IsAnswered, IsRead, IsSolved, HasReason, TellsModel, WritesAnswer, WritesPart, WritesLine};
 
-use crate::report::answer_text;
-use crate::search::search;
+use crate::report::{answer_text, model_line};
+use crate::search::{EndedSearch, search_tree};
+use crate::words::read_words;
 use bl_io::{Failed, ReadEnd, Sink, Source, read_all, write_all};
-use bl_mps::{ModelFault, read};
-use std::alloc::Global;
+use bl_journal::Journal;
+use bl_journal::laws::answers_are_true;
+use bl_mps::{ModelFault, What, read};
+use bl_problem::Problem;
+use std::alloc::{AllocError, Global};
+use std::sync::Arc;
 
-/// How a run ended.
-#[derive(Clone, Copy, Debug, PartialEq, Eq)]
+/// How a run ended: its status, and the journal of its search where one was made and ended.
+#[derive(Drop)]
 pub struct Ended {
     pub status: u8,
+    pub journal: Option<Journal>,
 }
 
 const MOST_BYTES: usize = 8_388_608;
@@ -27,74 +34,128 @@ pub fn run_one<S: Source, K: Sink>(
     source: &mut S,
     sink: &mut K,
 ) -> Ended
-    // 0: the written bytes are the answer to what was read, and nothing failed.
-    ensures answer { result.status ≡ 0 → WritesAnswer (S.left source.old) (S.left source.new) (K.kept sink.old) (K.kept sink.new) }
-    ensures no_fault { result.status ≡ 0 → (S.faults source.new ≡ S.faults source.old) × (K.faults sink.new ≡ K.faults sink.old) }
-    // 2: exactly where there are words, and then the source is untouched.
-    ensures words { (result.status ≡ 2) ↔ (0 < length words.now) }
+    // 0: the search has ended with no live node, the written bytes are its final answer, and nothing failed.
+    ensures decided { result.status ≡ 0 → WritesAnswer words.now false result.journal (S.left source.old) (S.left source.new) (K.kept sink.old) (K.kept sink.new) }
+    // 1: the budget is spent and a live node waits; the written bytes are the bound and the best point found, and nothing failed.
+    ensures limited { result.status ≡ 1 → WritesAnswer words.now true result.journal (S.left source.old) (S.left source.new) (K.kept sink.old) (K.kept sink.new) }
+    ensures no_fault { result.status ≤ 1 → (S.faults source.new ≡ S.faults source.old) × (K.faults sink.new ≡ K.faults sink.old) }
+    // 2: exactly where the words mean nothing, and then the source is untouched.
+    ensures words { (result.status ≡ 2) ↔ MeansNothing words.now }
     ensures unread { result.status ≡ 2 → source.new ≡ source.old }
-    // 3: what was read is too long or means no problem. At 0 and 5 it means one, so 3 comes exactly there, but for 4 and 6.
-    ensures model { result.status ≡ 3 → IsUnreadable (S.left source.old) (S.left source.new) }
+    // 3: what was read is too long or has a fault, and the line tells it. At 0, 1 and 5 it means a problem, so 3 comes exactly there, but for 4 and 6.
+    ensures model { result.status ≡ 3 → TellsModel (S.left source.old) (S.left source.new) (K.kept sink.old) (K.kept sink.new) (K.faults sink.old) (K.faults sink.new) }
     // 4: the source failed.
     ensures read { result.status ≡ 4 → Rose (S.faults source.old) (S.faults source.new) }
-    // 5: the sink failed after the problem was answered, and a prefix of the answer stands.
+    // 5: the sink failed after the search had ended, and a prefix of the answer stands.
     ensures write { result.status ≡ 5 → Rose (K.faults sink.old) (K.faults sink.new) }
-    ensures part { result.status ≡ 5 → WritesPart (S.left source.old) (S.left source.new) (K.kept sink.old) (K.kept sink.new) }
-    // 2, 3, 4 and 6, want of memory: a prefix of the fault's line stands, and all of it unless the sink failed.
-    ensures line { result.status ≢ 0 → result.status ≢ 5
+    ensures part { result.status ≡ 5 → WritesPart words.now result.journal (S.left source.old) (S.left source.new) (K.kept sink.old) (K.kept sink.new) }
+    // 2, 4 and 6, want of memory: a prefix of the fault's line stands, and all of it unless the sink failed.
+    ensures line { 1 < result.status → result.status ≢ 3 → result.status ≢ 5
         → WritesLine (K.kept sink.old) (K.kept sink.new) (K.faults sink.old) (K.faults sink.new) (fault_line result.status) }
-    ensures others { (result.status ≢ 1) × (result.status ≤ 6) }
+    ensures no_journal { 1 < result.status → result.status ≢ 5 → result.journal ≡ None }
+    ensures others { result.status ≤ 6 }
 {
     match answer(alloc, words, source) {
-        Ok(text) => match write_out(sink, &text) {
-            Ok(()) => Ended { status: 0 },
-            Err(Failed) => Ended { status: 5 },
-        },
-        Err(Stop::Words) => stopped(sink, 2),
-        Err(Stop::Model) => stopped(sink, 3),
-        Err(Stop::Read) => stopped(sink, 4),
-        Err(Stop::Memory) => stopped(sink, 6),
+        Ok(
+            Answered {
+                text,
+                journal,
+                limited,
+            },
+        ) => {
+            let status = match write_out(sink, &text) {
+                Ok(()) => answered_status(limited),
+                Err(Failed) => 5,
+            };
+            Ended {
+                status,
+                journal: Some(journal),
+            }
+        }
+        Err(Stop::Words) => stopped(sink, 2, b"fault words\n"),
+        Err(Stop::TooLong) => stopped(sink, 3, b"fault model long\n"),
+        Err(Stop::Model { line, what }) => refused(alloc, sink, line, what),
+        Err(Stop::Read) => stopped(sink, 4, b"fault read\n"),
+        Err(Stop::Memory) => stopped(sink, 6, b"fault memory\n"),
     }
+}
+
+// The status of a search that has ended.
+fn answered_status(limited: bool) -> u8
+    ensures decided { limited ≡ false → result ≡ 0 }
+    ensures limited { limited ≡ true → result ≡ 1 }
+{
+    if limited { 1 } else { 0 }
+}
+
+// A search that has ended, and the text of its answer.
+struct Answered {
+    text: Vec<u8>,
+    journal: Journal,
+    limited: bool,
 }
 
 // Why there is no answer to write.
 enum Stop {
     Words,
-    Model,
+    TooLong,
+    Model { line: u32, what: What },
     Read,
     Memory,
 }
 
-// The text of the answer to what the source gives.
-fn answer<S: Source>(alloc: Global, words: &[String], source: &mut S) -> Result<Vec<u8>, Stop>
-    ensures text { IfOk result (λ text. IsAnswered (S.left source.old) (S.left source.new) text.items) }
-    ensures accepted { OnOk result (length words.now ≡ 0) }
+// The problem that the source gives.
+fn read_problem<S: Source>(alloc: Global, source: &mut S) -> Result<Problem, Stop>
+    ensures problem { IfOk result (λ problem. IsRead (S.left source.old) (S.left source.new) problem) }
     ensures count { OnOk result (S.faults source.new ≡ S.faults source.old) }
-    ensures words { IfErr result (λ e. (e ≡ Stop.Words) ↔ (0 < length words.now)) }
-    ensures unread { 0 < length words.now → source.new ≡ source.old }
-    ensures model { IfErr result (λ e. e ≡ Stop.Model → IsUnreadable (S.left source.old) (S.left source.new)) }
-    ensures read { IfErr result (λ e. e ≡ Stop.Read → Rose (S.faults source.old) (S.faults source.new)) }
+    ensures words { IfErr result (λ e. e ≢ Stop.Words) }
+    ensures cause { IfErr result (HasReason (S.left source.old) (S.left source.new) (S.faults source.old) (S.faults source.new)) }
 {
-    if words.len() > 0 {
-        return Err(Stop::Words);
-    }
     let bytes = match read_all(alloc, source, MOST_BYTES) {
         Ok(bytes) => bytes,
         Err(ReadEnd::Fault) => return Err(Stop::Read),
-        Err(ReadEnd::TooLong) => return Err(Stop::Model),
+        Err(ReadEnd::TooLong) => return Err(Stop::TooLong),
         Err(ReadEnd::Memory) => return Err(Stop::Memory),
     };
-    let problem = match read(alloc, &bytes) {
-        Ok(problem) => problem,
-        Err(ModelFault::Unbuilt) => return Err(Stop::Model),
-        Err(ModelFault::Memory) => return Err(Stop::Memory),
+    match read(alloc, &bytes) {
+        Ok(problem) => Ok(problem),
+        Err(ModelFault::At { line, what }) => Err(Stop::Model { line, what }),
+        Err(ModelFault::Memory) => Err(Stop::Memory),
+    }
+}
+
+// The search of a problem's tree, and the text of its answer.
+fn solve(alloc: Global, problem: Problem, nodes: u32) -> Result<Answered, AllocError>
+    requires { nodes ≤ 100000 }
+    ensures { IfOk result (λ answered. IsSolved problem nodes answered) }
+{
+    answers_are_true();
+    let problem = Arc::new(alloc, problem)?;
+    let EndedSearch { tree, limited } = search_tree(alloc, &problem, nodes)?;
+    let text = answer_text(alloc, &problem, &tree.answer())?;
+    Ok(Answered {
+        text,
+        journal: tree.into_journal(),
+        limited,
+    })
+}
+
+// The answer to what the source gives.
+fn answer<S: Source>(alloc: Global, words: &[String], source: &mut S) -> Result<Answered, Stop>
+    ensures text { IfOk result (λ answered. IsAnswered words.now (S.left source.old) (S.left source.new) answered.limited answered.journal.entries answered.text.items) }
+    ensures count { OnOk result (S.faults source.new ≡ S.faults source.old) }
+    ensures words { IfErr result (λ e. (e ≡ Stop.Words) ↔ MeansNothing words.now) }
+    ensures accepted { OnOk result (MeansNothing words.now → ⊥) }
+    ensures unread { MeansNothing words.now → source.new ≡ source.old }
+    ensures cause { IfErr result (HasReason (S.left source.old) (S.left source.new) (S.faults source.old) (S.faults source.new)) }
+{
+    let Some(nodes) = read_words(words) else {
+        return Err(Stop::Words);
     };
-    let Ok(answer) = search(alloc, &problem) else {
-        return Err(Stop::Memory);
-    };
-    match answer_text(alloc, &problem, &answer) {
-        Ok(text) => Ok(text),
-        Err(_) => Err(Stop::Memory),
+    let problem = read_problem(alloc, source)?;
+    match solve(alloc, problem, nodes) {
+        Ok(answered) => Ok(answered),
+        Err(AllocError) => Err(Stop::Memory),
     }
 }
 
@@ -109,24 +170,28 @@ fn write_out<K: Sink>(sink: &mut K, text: &[u8]) -> Result<(), Failed>
 }
 
 // Ends with a status, whose line is written as far as the sink takes it.
-fn stopped<K: Sink>(sink: &mut K, status: u8) -> Ended
+fn stopped<K: Sink>(sink: &mut K, status: u8, line: &[u8]) -> Ended
     ensures status { result.status ≡ status }
-    ensures line { WritesLine (K.kept sink.old) (K.kept sink.new) (K.faults sink.old) (K.faults sink.new) (fault_line status) }
+    ensures journal { result.journal ≡ None }
+    ensures line { WritesLine (K.kept sink.old) (K.kept sink.new) (K.faults sink.old) (K.faults sink.new) line.now }
 {
-    let _ = write_out(sink, line_of(status));
-    Ended { status }
+    let _ = write_out(sink, line);
+    Ended {
+        status,
+        journal: None,
+    }
 }
 
-fn line_of(status: u8) -> &'static [u8]
-    ensures { result.now ≡ fault_line status }
+// Ends with the line that tells a file's first fault, or for want of memory.
+fn refused<K: Sink>(alloc: Global, sink: &mut K, line: u32, what: What) -> Ended
+    ensures journal { result.journal ≡ None }
+    ensures status { (result.status ≡ 3) ⊎ (result.status ≡ 6) }
+    ensures model { result.status ≡ 3
+        → WritesLine (K.kept sink.old) (K.kept sink.new) (K.faults sink.old) (K.faults sink.new) (model_line (record { line = line; what = what })) }
+    ensures memory { result.status ≡ 6 → WritesLine (K.kept sink.old) (K.kept sink.new) (K.faults sink.old) (K.faults sink.new) (fault_line 6) }
 {
-    if status == 2 {
-        b"fault words\n"
-    } else if status == 3 {
-        b"fault model unbuilt\n"
-    } else if status == 4 {
-        b"fault read\n"
-    } else {
-        b"fault memory\n"
+    match model_line(alloc, line, what) {
+        Ok(text) => stopped(sink, 3, &text),
+        Err(AllocError) => stopped(sink, 6, b"fault memory\n"),
     }
 }

@@ -1,7 +1,16 @@
-use crate::{Ended, run_one};
+ghost use Rattle.std.specs.Prelude.{IfOk};
+ghost use Rattle.bl_tree.specs.Views.{IsLeaseOf};
+
+use crate::run_one;
+use crate::search::search_tree;
+use bl_desc::Piece;
 use bl_io::{MemorySink, MemorySource, ReadEnd, read_all};
-use bl_mps::ModelFault;
+use bl_journal::{Entry, Journal, Order, Settings};
+use bl_mps::read;
+use bl_problem::Problem;
+use bl_tree::{Lease, Taken, Tree};
 use std::alloc::{AllocError, Global};
+use std::sync::Arc;
 use std::test::Fail;
 
 /// A covering model with one row: 2X + 3Y is at least 7, at cost 2X + 3Y.
@@ -41,8 +50,8 @@ ENDATA
 
 type Edit = (usize, &'static [u8]);
 
-/// The covering model with other lines at these numbers.
-fn cover(alloc: Global, edits: &[Edit]) -> Result<Vec<u8>, AllocError> {
+/// The covering model with other lines at these numbers, and each line ended so.
+fn cover_ended(alloc: Global, edits: &[Edit], ending: &[u8]) -> Result<Vec<u8>, AllocError> {
     let mut text = Vec::new(alloc);
     for i in 0..COVER.len() {
         let mut line = COVER[i];
@@ -52,27 +61,42 @@ fn cover(alloc: Global, edits: &[Edit]) -> Result<Vec<u8>, AllocError> {
             }
         }
         text.extend_from_slice(line)?;
-        text.extend_from_slice(b"\n")?;
+        text.extend_from_slice(ending)?;
     }
     Ok(text)
+}
+
+/// The covering model with other lines at these numbers.
+fn cover(alloc: Global, edits: &[Edit]) -> Result<Vec<u8>, AllocError> {
+    cover_ended(alloc, edits, b"\n")
+}
+
+/// The words of a list.
+fn words_of(alloc: Global, list: &[&str]) -> Result<Vec<String>, AllocError> {
+    let mut words = Vec::new(alloc);
+    for word in list {
+        words.push(String::from_str(alloc, word)?)?;
+    }
+    Ok(words)
 }
 
 /// The status of a run over these bytes, and what it wrote.
 fn run(alloc: Global, bytes: Vec<u8>, words: &[String]) -> Result<(u8, MemorySink), AllocError> {
     let mut source = MemorySource::new(bytes, 65_536, Vec::new(alloc));
     let mut sink = MemorySink::new(alloc, 65_536, 65_536, Vec::new(alloc))?;
-    let Ended { status } = run_one(alloc, words, &mut source, &mut sink);
-    Ok((status, sink))
+    let ended = run_one(alloc, words, &mut source, &mut sink);
+    Ok((ended.status, sink))
 }
+
+const BEST: &[u8] = b"status optimal\nobjective 7\ncol X 2\ncol Y 1\nend\n";
+
+const NONE: &[u8] = b"status infeasible\nend\n";
 
 #[test]
 fn models_are_answered(rt: HostRuntime) -> Result<(), Fail> {
     let alloc = rt.alloc();
-    let best = b"status optimal\nobjective 7\ncol X 2\ncol Y 1\nend\n".as_slice();
-    let none = b"status infeasible\nend\n".as_slice();
-    let unbuilt = b"fault model unbuilt\n".as_slice();
-    let rows: [(&[Edit], u8, &[u8]); 20] = [
-        (&[], 0, best),
+    let rows: [(&[Edit], u8, &[u8]); 29] = [
+        (&[], 0, BEST),
         // an equation that no whole numbers meet
         (
             &[
@@ -84,7 +108,40 @@ fn models_are_answered(rt: HostRuntime) -> Result<(), Fail> {
                 (14, b" UP BND Y 5"),
             ],
             0,
-            none,
+            NONE,
+        ),
+        // decimals
+        (
+            &[
+                (7, b"    X COST 0.25 R1 0.1"),
+                (8, b"    Y COST 0.75 R1 0.2"),
+                (11, b"    RHS R1 0.3"),
+                (13, b" UP BND X 3"),
+                (14, b" UP BND Y 3"),
+            ],
+            0,
+            b"status optimal\nobjective 0.75\ncol X 3\ncol Y 0\nend\n",
+        ),
+        // an equation with a range
+        (
+            &[
+                (4, b" E  R1"),
+                (7, b"    X COST 1 R1 1"),
+                (8, b"    Y COST 2 R1 1"),
+                (11, b"    RHS R1 5\nRANGES\n    RNG R1 -2"),
+            ],
+            0,
+            b"status optimal\nobjective 3\ncol X 3\ncol Y 0\nend\n",
+        ),
+        (
+            &[
+                (4, b" E  R1"),
+                (7, b"    X COST 1 R1 1"),
+                (8, b"    Y COST 2 R1 1"),
+                (11, b"    RHS R1 5\nRANGES\n    RNG R1 2"),
+            ],
+            0,
+            b"status optimal\nobjective 5\ncol X 5\ncol Y 0\nend\n",
         ),
         // no columns: the row's sum is 0
         (
@@ -97,7 +154,7 @@ fn models_are_answered(rt: HostRuntime) -> Result<(), Fail> {
                 (11, b"    RHS R1 1"),
             ],
             0,
-            none,
+            NONE,
         ),
         (
             &[
@@ -114,7 +171,7 @@ fn models_are_answered(rt: HostRuntime) -> Result<(), Fail> {
             b"status optimal\nobjective 0\nend\n",
         ),
         // a low above its high leaves no point
-        (&[(13, b" LO BND X 3"), (14, b" UP BND X 2")], 0, none),
+        (&[(13, b" LO BND X 3\n UP BND X 2")], 0, NONE),
         // a column without a card is 0 or 1, and bounds of zero fix
         (
             &[(13, b" UP BND Y 2"), (14, b"* no card for X")],
@@ -131,38 +188,262 @@ fn models_are_answered(rt: HostRuntime) -> Result<(), Fail> {
             0,
             b"status optimal\nobjective -19\ncol X 4\ncol Y 9\nend\n",
         ),
-        // lines behind the end are not read
-        (&[(15, b"ENDATA\nRANGES\n  what?")], 0, best),
-        // not of the plain form
-        (&[(7, b"    X COST 2.0 R1 2")], 3, unbuilt),
-        (&[(13, b" UP BND X 9999"), (14, b" UP BND Y 1")], 3, unbuilt),
-        (&[(15, b"")], 3, unbuilt),
-        (&[(7, b"    X R1 2 R1 2")], 3, unbuilt),
-        (&[(7, b"    X COST 2 NONE 2")], 3, unbuilt),
-        (&[(11, b"    RHS COST 7")], 3, unbuilt),
-        (&[(14, b" UP BOUND Y 10")], 3, unbuilt),
-        (&[(13, b" UP BND X -1")], 3, unbuilt),
-        (&[(14, b" LO BND Y 1")], 3, unbuilt),
-        (&[(9, b"")], 3, unbuilt),
-        (&[(10, b"RANGES"), (11, b"    RNG R1 1")], 3, unbuilt),
+        // a constant of the objective
+        (
+            &[(11, b"    RHS R1 7\n    RHS COST -10")],
+            0,
+            b"status optimal\nobjective 17\ncol X 2\ncol Y 1\nend\n",
+        ),
+        (
+            &[(11, b"    RHS R1 7\n    RHS COST 0.5")],
+            0,
+            b"status optimal\nobjective 6.5\ncol X 2\ncol Y 1\nend\n",
+        ),
+        (
+            &[(11, b"    RHS COST 7")],
+            0,
+            b"status optimal\nobjective -7\ncol X 0\ncol Y 0\nend\n",
+        ),
+        // many points, another spelling of 2, another set, and what needs no mark
+        (&[(13, b" UP BND X 9999"), (14, b" UP BND Y 1")], 0, BEST),
+        (&[(7, b"    X COST 2.0 R1 2")], 0, BEST),
+        (&[(14, b" UP BOUND Y 10")], 0, BEST),
+        (&[(9, b"")], 0, BEST),
+        (&[(15, b"ENDATA\nRANGES\n  what?")], 0, BEST),
+        (
+            &[(10, b"RANGES"), (11, b"    RNG R1 1")],
+            0,
+            b"status optimal\nobjective 0\ncol X 0\ncol Y 0\nend\n",
+        ),
+        // the first fault, and its line
+        (&[(15, b"")], 3, b"fault model line 16 NoEnd\n"),
+        (&[(7, b"    X R1 2 R1 2")], 3, b"fault model line 7 Twice\n"),
+        (
+            &[(8, b"    Y COST 3 R1 3\n    X COST 1")],
+            3,
+            b"fault model line 9 Twice\n",
+        ),
+        (
+            &[(7, b"    X COST 2 NONE 2")],
+            3,
+            b"fault model line 7 UnknownRow\n",
+        ),
+        (
+            &[(7, b"    X COST 2 R1 1e-27")],
+            3,
+            b"fault model line 15 TooWide\n",
+        ),
+        (
+            &[(13, b" UP BND X -1")],
+            3,
+            b"fault model line 15 Unbounded\n",
+        ),
+        (
+            &[(14, b" LO BND Y 1")],
+            3,
+            b"fault model line 15 Unbounded\n",
+        ),
+        (
+            &[(13, b" UP BND X 1.5")],
+            3,
+            b"fault model line 13 FractionBound\n",
+        ),
+        (
+            &[(13, b" UP BND Z 1")],
+            3,
+            b"fault model line 13 UnknownColumn\n",
+        ),
     ];
     for (edits, status, text) in rows {
         let (got, sink) = run(alloc, cover(alloc, edits)?, &[])?;
         assert_eq!(rt; got, status);
         assert!(rt; sink.kept() == text);
     }
-    let (status, sink) = run(alloc, KNAPSACK.to_vec(alloc)?, &[])?;
-    assert_eq!(rt; status, 0);
+    // carriage returns, and no names of sets
+    let bare: [Edit; 3] = [(11, b"    R1 7"), (13, b" UP X 10"), (14, b" UP Y 10")];
+    let (_, sink) = run(alloc, cover_ended(alloc, &bare, b"\r\n")?, &[])?;
+    assert!(rt; sink.kept() == BEST);
+    let (_, sink) = run(alloc, KNAPSACK.to_vec(alloc)?, &[])?;
     assert!(rt;
         sink.kept()
             == b"status optimal\nobjective -220\ncol A 0\ncol B 1\ncol C 1\nend\n".as_slice()
     );
-    let (status, sink) = run(alloc, Vec::new(alloc), &[])?;
-    assert_eq!(rt; status, 3);
-    assert!(rt; sink.kept() == unbuilt);
-    let (status, sink) = run(alloc, vec![in alloc; b'*'; 8_388_609]?, &[])?;
-    assert_eq!(rt; status, 3);
-    assert!(rt; sink.kept() == unbuilt);
+    Ok(())
+}
+
+/// One column of cost -1 without rows.
+const SINGLE: [&[u8]; 10] = [
+    b"NAME",
+    b"ROWS",
+    b" N  COST",
+    b"COLUMNS",
+    b"    M  'MARKER'  'INTORG'",
+    b"    X  COST  -1",
+    b"    M  'MARKER'  'INTEND'",
+    b"BOUNDS",
+    b" UP BND X 1000000000",
+    b"ENDATA",
+];
+
+#[test]
+fn single_columns_and_odd_files_are_answered(rt: HostRuntime) -> Result<(), Fail> {
+    let alloc = rt.alloc();
+    let rows: [(&[Edit], u8, &[u8]); 7] = [
+        (
+            &[],
+            0,
+            b"status optimal\nobjective -1000000000\ncol X 1000000000\nend\n",
+        ),
+        (
+            &[(9, b" UP BND X 1000000001")],
+            3,
+            b"fault model line 9 TooWide\n",
+        ),
+        (
+            &[(9, b" UP BND X -5")],
+            3,
+            b"fault model line 10 Unbounded\n",
+        ),
+        (
+            &[(9, b" UP BND X -5\n LO BND X -9")],
+            0,
+            b"status optimal\nobjective 5\ncol X -5\nend\n",
+        ),
+        (
+            &[(5, b"*"), (7, b"*"), (9, b" UP BND X 5")],
+            3,
+            b"fault model line 10 NotWhole\n",
+        ),
+        (
+            &[(5, b"*"), (7, b"*"), (9, b" UI BND X 5")],
+            0,
+            b"status optimal\nobjective -5\ncol X 5\nend\n",
+        ),
+        (
+            &[(9, b" UP BND X 1.5")],
+            3,
+            b"fault model line 9 FractionBound\n",
+        ),
+    ];
+    for (edits, status, text) in rows {
+        let mut bytes = Vec::new(alloc);
+        for i in 0..SINGLE.len() {
+            let mut line = SINGLE[i];
+            for edit in edits {
+                if edit.0 == i + 1 {
+                    line = edit.1;
+                }
+            }
+            bytes.extend_from_slice(line)?;
+            bytes.extend_from_slice(b"\n")?;
+        }
+        let (got, sink) = run(alloc, bytes, &[])?;
+        assert_eq!(rt; got, status);
+        assert!(rt; sink.kept() == text);
+    }
+    for (size, text) in [
+        (0usize, b"fault model line 1 NoEnd\n".as_slice()),
+        (8_388_608, b"fault model line 2 NoEnd\n"),
+        (8_388_609, b"fault model long\n"),
+    ] {
+        let (status, sink) = run(alloc, vec![in alloc; b'*'; size]?, &[])?;
+        assert_eq!(rt; status, 3);
+        assert!(rt; sink.kept() == text);
+    }
+    Ok(())
+}
+
+#[test]
+fn budgets_are_kept(rt: HostRuntime) -> Result<(), Fail> {
+    let alloc = rt.alloc();
+    let limit = b"status limit\nbound 0\nobjective none\nend\n".as_slice();
+    let words = b"fault words\n".as_slice();
+    let rows: [(&[&str], u8, &[u8]); 8] = [
+        (&["--nodes", "0"], 1, limit),
+        (&["--nodes", "000"], 1, limit),
+        (&["--nodes", "241"], 0, BEST),
+        (&["--nodes", "100001"], 2, words),
+        (&["--nodes", "0000001"], 2, words),
+        (&["--nodes", "x"], 2, words),
+        (&["--nodes"], 2, words),
+        (&["x"], 2, words),
+    ];
+    for (list, status, text) in rows {
+        let (got, sink) = run(alloc, cover(alloc, &[])?, &words_of(alloc, list)?)?;
+        assert_eq!(rt; got, status);
+        assert!(rt; sink.kept() == text);
+    }
+    Ok(())
+}
+
+/// The covering problem.
+fn problem(alloc: Global) -> Result<Arc<Problem>, Fail> {
+    let bytes = cover(alloc, &[])?;
+    if bytes.len() > 10_000 {
+        return Err(Fail::new("the model is long"));
+    }
+    match read(alloc, &bytes) {
+        Ok(problem) => Ok(Arc::new(alloc, problem)?),
+        Err(_) => Err(Fail::new("the model is refused")),
+    }
+}
+
+/// The node that a take gives.
+fn lease_of(tree: &mut Tree) -> Result<Lease, Fail>
+    ensures { IfOk result (λ lease. IsLeaseOf tree.new 0 lease) }
+{
+    match tree.take(0)? {
+        Taken::Node(lease) => Ok(lease),
+        Taken::Idle | Taken::Done | Taken::Spent => Err(Fail::new("no node is given")),
+    }
+}
+
+/// Whether a node is stored whole with these bounds.
+fn is_stored(tree: &Tree, id: u32, lows: &[i64], highs: &[i64]) -> bool {
+    match tree.stored(id) {
+        Some(Piece::Explicit(desc)) => {
+            desc.get().lows.as_slice() == lows && desc.get().highs.as_slice() == highs
+        }
+        _ => false,
+    }
+}
+
+#[test]
+fn trees_follow_their_history(rt: HostRuntime) -> Result<(), Fail> {
+    let alloc = rt.alloc();
+    let problem = problem(alloc)?;
+    let settings = Settings {
+        nodes: 100,
+        span: 1,
+        order: Order::Best,
+    };
+    let mut tree = Tree::new(alloc, Arc::try_clone(&problem)?, settings)?;
+    assert_eq!(rt; tree.held(), 7);
+    for _ in 0..2 {
+        let lease = lease_of(&mut tree)?;
+        assert_eq!(rt; lease.id(), 0);
+        assert!(rt; lease.desc().highs.as_slice() == [10, 10].as_slice());
+        assert_eq!(rt; tree.glance().used, 1);
+        tree.back(0, lease);
+    }
+    assert_eq!(rt; tree.into_journal().len(), 4);
+    let mut journal = Journal::new(alloc);
+    journal.reserve(1)?;
+    journal.push_reserved(Entry::Take { seat: 0, id: 0 });
+    assert_eq!(rt; journal.len(), 1);
+    assert!(rt; matches!(journal.get(0), Some(Entry::Take { seat: 0, id: 0 })));
+    assert!(rt; journal.get(1).is_none());
+    // the root is halved, and then the budget is spent
+    let search = search_tree(alloc, &problem, 1)?;
+    assert!(rt; search.limited);
+    assert_eq!(rt; search.tree.held(), 21);
+    assert!(rt; is_stored(&search.tree, 1, &[0, 0], &[5, 10]));
+    assert!(rt; is_stored(&search.tree, 2, &[6, 0], &[10, 10]));
+    assert!(rt; search.tree.stored(3).is_none());
+    assert_eq!(rt; search.tree.journal().len(), 2);
+    let search = search_tree(alloc, &problem, 241)?;
+    assert!(rt; !search.limited);
+    assert_eq!(rt; search.tree.glance().best, Some(7));
     Ok(())
 }
 
@@ -214,13 +495,6 @@ fn whole_reads_keep_the_limit(rt: HostRuntime) -> Result<(), Fail> {
         (ReadEnd::Memory, "Memory"),
     ] {
         let text = format!(in alloc; "{end}")?;
-        assert!(rt; text.as_str() == name);
-    }
-    for (fault, name) in [
-        (ModelFault::Unbuilt, "Unbuilt"),
-        (ModelFault::Memory, "Memory"),
-    ] {
-        let text = format!(in alloc; "{fault}")?;
         assert!(rt; text.as_str() == name);
     }
     Ok(())

@@ -1,5 +1,5 @@
 -- The wrapping steps give the exact rest, since it fits.
-use Rattle.std.proofs.Common.{arith, ◌≡◌, ◌+◌, ◌*◌, ◌%◌, ◌^◌, ◌<◌, ◌∙◌, ap, sym, ℤ, ℕ, ◌-ℤ◌, ◌*ℤ◌, int_rem, to_z, of_z}
+use Rattle.std.proofs.Common.{arith, ◌≡◌, ◌*◌, ◌%◌, ◌^◌, ◌<◌, ◌∙◌, ap, ℤ, ℕ, ◌-ℤ◌, ◌*ℤ◌, int_rem, to_z, of_z}
 use Rattle.std.proofs.lemmas.Int.{ints, to_z-of_z, wrapping_sub-bits, wrapping_mul_is, int_wrap-sub_right, int_wrap_fits, quot-rem}
 use Rattle.std.proofs.lemmas.Nat.{mod_below}
 use Rattle.std.specs.Int.{w128, int_wrap}

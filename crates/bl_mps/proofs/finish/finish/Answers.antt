@@ -1,45 +1,39 @@
-use Rattle.std.proofs.Common.{◌≡◌, ◌∙◌, sym, ap, List, arith, subst, All, false, refl, ℕ, ◌≤◌, min}
-use Rattle.std.specs.Prelude.{nat_lt}
-use Rattle.std.specs.List.{list_all}
-use Rattle.std.proofs.lemmas.Bool.Decides.{nat_tests}
-use Rattle.bl_problem.specs.declared.problem.Column.{Column}
-use Rattle.bl_problem.specs.Points.{points_in, lows_of, highs_of}
-use Rattle.bl_problem.specs.Program.{IsColumn, Program}
-use Rattle.bl_mps.specs.Meaning.{has_end}
-use Rattle.bl_mps.proofs.Made.{unbounded, all_kept, some_rows}
-use Rattle.bl_mps.proofs.Programs.{split, all_columns, program_is}
+use Rattle.std.proofs.Common.{Result, Err, ◌≡◌, ◌∙◌, sym, ap, subst, List, Option, Bool, true, ◌<◌, length, map, [], get_or, arith}
+use Rattle.std.proofs.lemmas.List.{get_or-map, length-map}
+use Rattle.bl_problem.specs.Program.{Program}
+use Rattle.bl_mps.specs.declared.entries.Entry.{Entry}
+use Rattle.bl_mps.specs.declared.kind.Role.TheVariants.{Extra}
+use Rattle.bl_mps.specs.declared.kind.Ends.{Ends}
+use Rattle.bl_mps.specs.declared.kind.What.{What}
+use Rattle.bl_mps.specs.Said.{RowLine, Grid}
+use Rattle.bl_mps.specs.Lines.{has_objective}
+use Rattle.bl_mps.specs.Meaning.{entries_of, objective_in, all_ends, are_whole, are_bounded, objective_of, objective_within, program_of, keeps_limits}
+use Rattle.bl_mps.specs.Views.{Gives}
+use Rattle.bl_mps.proofs.Made.{objective_wide, wide_in, finished_is, some_true}
 use Rattle.bl_mps.proofs.finish.finish.Goals as goal
 
-pub returns-then-not-are_bounded-clause-problem : goal.returns-then-not-are_bounded-clause-problem
-returns-then-not-are_bounded-clause-problem c =
-    unbounded c.args.reader.now c.in_ok-ends.ends.items (sym c.is_complete.ensures ∙ c.if-not-is_complete.false) c.in_ok-ends.ensures
-    (ap (list_all has_end) (sym c.deref.ensures.value) ∙ sym c.are_bounded.ensures ∙ c.if-not-are_bounded.true)
+abbrev no_line : RowLine
+no_line = record { name = []; role = Extra }
 
-pub count_points-requires : goal.count_points-requires
-count_points-requires c =
-    let some = some_rows c.args.reader.now (sym c.is_complete.ensures ∙ c.if-not-is_complete.false) in
-    subst (λ (cs : List Column). All IsColumn cs) (sym (c.deref-4.ensures.value ∙ c.in_ok-columns.ensures)) (all_columns c.args.reader.now c.requires (split c.args.reader.now.rows some))
+pub objective_at-requires-clause-entries : goal.objective_at-requires-clause-entries
+objective_at-requires-clause-entries c =
+    let cells = c.args.reader.now.columns.cells in
+    let rows = c.args.reader.now.rows in
+    let l : c.in-Some.place < length rows = omega (arith, c.in-Some.ensures.place, ap length c.rows.ensures) in
+    let n = length-map rows (λ (r : RowLine). r.name) in
+    let e = get_or-map (entries_of cells) (map (λ (r : RowLine). r.name) rows) c.in-Some.place [] c.index.result.now (omega (arith, n, l)) in
+    let f = get_or-map (λ (r : RowLine). r.name) rows c.in-Some.place no_line [] l in
+    let name = subst (λ (rs : List RowLine). (get_or rs c.in-Some.place no_line).name ≡ objective_in rs) c.rows.ensures (c.in-Some.ensures.name no_line) in
+    c.as_slice.ensures ∙ c.index.ensures ∙ ap (λ (es : List (List Entry)). get_or es c.in-Some.place c.index.result.now) c.in_ok-entries.ensures ∙ e ∙ ap (entries_of cells) (f ∙ name)
 
-pub new-requires : goal.new-requires
-new-requires c =
-    let some = some_rows c.args.reader.now (sym c.is_complete.ensures ∙ c.if-not-is_complete.false) in
-    rw (c.in_ok-columns.ensures, c.in_ok-rows.ensures, c.in_ok-objective.ensures) (program_is c.args.reader.now c.requires (split c.args.reader.now.rows some))
-
-few : (n m k : ℕ) → n ≡ min m 10001 → n ≤ 10000 → nat_lt 10000 m ≡ false
-few n m k e l = let f : m ≤ 10000 = omega arith in grind (arith, nat_tests)
-
-pub returns-clause-problem : goal.returns-clause-problem
-returns-clause-problem c =
-    let columns = c.deref-4.ensures.value ∙ c.in_ok-columns.ensures in
-    let count = c.count_points.ensures ∙ ap (λ (cs : List Column). min (points_in (lows_of cs) (highs_of cs)) 10001) columns in
-    all_kept c.args.reader.now c.in_ok-ends.ends.items c.new.result (sym c.is_complete.ensures ∙ c.if-not-is_complete.false) c.in_ok-ends.ensures
-    (ap (list_all has_end) (sym c.deref.ensures.value) ∙ sym c.are_bounded.ensures ∙ c.if-not-are_bounded.false)
-    (few c.count_points.result _ 0 count c.if-count_points-gt-MOST_POINTS.false)
-    (rw (c.new.ensures, c.in_ok-columns.ensures, c.in_ok-rows.ensures, c.in_ok-objective.ensures) refl)
-
-pub returns-clause-few : goal.returns-clause-few
-returns-clause-few c =
-    let columns = c.deref-4.ensures.value in
-    let count = c.count_points.ensures ∙ ap (λ (cs : List Column). min (points_in (lows_of cs) (highs_of cs)) 10001) columns in
-    let same = ap (λ (p : Program). points_in (lows_of p.columns) (highs_of p.columns)) c.new.ensures in
-    omega (arith, count, same, c.if-count_points-gt-MOST_POINTS.false)
+pub returns : goal.returns
+returns c =
+    let s = c.args.reader.now in
+    let a : has_objective s.rows ≡ true = some_true c.objective.result (has_objective s.rows) c.in-Some.place (c.objective.ensures.test ∙ ap has_objective c.rows.ensures) c.in-Some.is in
+    let ends = c.deref.ensures.value ∙ c.in_ok-ends.ensures in
+    let ends2 = c.deref-2.ensures.value ∙ c.in_ok-ends.ensures in
+    let whole = c.whole.ensures.whole ∙ ap (λ (g : Grid). g.whole) c.columns.ensures in
+    let b : are_whole (all_ends s) s.columns.whole ≡ true =
+    sym (c.are_whole.ensures ∙ ap (λ (es : List (Option Ends)). are_whole es c.whole.result.now) ends ∙ ap (λ (w : List Bool). are_whole (all_ends s) w) whole) ∙ c.if-not-are_whole.false in
+    let d : are_bounded (all_ends s) ≡ true = sym (c.are_bounded.ensures ∙ ap are_bounded ends2) ∙ c.if-not-are_bounded.false in
+    subst (λ (r : Result Program What). Gives {A = Program} (Err c.in-Err.fault) r) (sym (finished_is s a b d)) (wide_in c.in-Err.fault objective_within (objective_of s) keeps_limits (program_of s) (objective_wide s c.requires) c.in-Err.ensures)

@@ -1,26 +1,35 @@
-use Rattle.std.proofs.Common.{◌∙◌, sym, ap, Some, subst, Err, Option}
-use Rattle.bl_mps.specs.Said.{Said}
-use Rattle.bl_mps.specs.Reading.{said_from}
-use Rattle.bl_mps.specs.Views.{Follows}
-use Rattle.bl_mps.proofs.Walks.{said_done, said_open, said_step, said_fails}
+use Rattle.std.proofs.Common.{◌≡◌, ◌∙◌, sym, ap, arith, length, ◌+◌, ℕ, Ok, Err}
+use Rattle.bl_mps.specs.Reading.{after_line, said_from}
+use Rattle.bl_mps.proofs.Walks.{fault_at, said_done, said_open, said_step}
 use Rattle.bl_mps.proofs.reader.Reader.file.Goals as goal
 
 pub returns-then-is_done : goal.returns-then-is_done
-returns-then-is_done c = sym c.loop-line.invariant ∙ said_done c.loop-line.self c.loop-line.walk.lines (sym c.is_done.ensures ∙ c.if-is_done.true)
+returns-then-is_done c = sym c.loop-line.invariant.goes_on ∙ said_done c.loop-line.last c.loop-line.self c.loop-line.walk.lines (sym c.is_done.ensures ∙ c.if-is_done.true)
+
+pub returns-in-Err-Broken : goal.returns-in-Err-Broken
+returns-in-Err-Broken c =
+    let steps = c.in-Some.ensures.steps in
+    let w = c.in-Err-Broken.what in
+    let broken : after_line c.loop-line.self c.in-Some.line.bytes.now ≡ Err w = rw c.in-Err-Broken.field-0-is at c.in-Err-Broken.ensures in
+    let number : c.loop-line.last + 1 ≡ c.in-Some.line.number = sym (steps.0 ∙ c.loop-line.invariant.number) in
+    rw c.in-Err-Broken.what-is
+    (sym c.loop-line.invariant.goes_on ∙ ap (said_from c.loop-line.last c.loop-line.self) steps.2
+    ∙ said_step c.loop-line.last c.loop-line.self c.in-Some.line.bytes.now c.next.new.self.lines (Err w) (sym c.is_done.ensures ∙ c.if-is_done.false) broken
+    ∙ ap (λ (n : ℕ). Err (fault_at n w)) number)
 
 pub loop-line-preserved : goal.loop-line-preserved
 loop-line-preserved c =
-    let one = said_step c.loop-line.self c.in-Some.line.bytes.now c.next.new.self.lines (Some c.line.new.self) (sym c.is_done.ensures ∙ c.if-is_done.false) c.in-Ok.ensures in
-    sym one ∙ ap (said_from c.loop-line.self) (sym c.in-Some.ensures.steps.2) ∙ c.loop-line.invariant
-
-pub returns-in-Err : goal.returns-in-Err
-returns-in-Err c =
-    let refused : Option Said → Type 0 = λ said. Follows {U = Unit {0}} (Err c.in-Err.fault) said c.line.new.self in
-    subst refused (ap (said_from c.loop-line.self) (sym c.in-Some.ensures.steps.2) ∙ c.loop-line.invariant)
-    (said_fails c.in-Err.fault c.loop-line.self c.line.new.self c.in-Some.line.bytes.now c.next.new.self.lines (sym c.is_done.ensures ∙ c.if-is_done.false) c.in-Err.ensures)
+    let steps = c.in-Some.ensures.steps in
+    let one = said_step c.loop-line.last c.loop-line.self c.in-Some.line.bytes.now c.next.new.self.lines (Ok c.line.new.self) (sym c.is_done.ensures ∙ c.if-is_done.false) c.in-Ok.ensures in
+    let number : c.in-Some.line.number ≡ c.loop-line.last + 1 = steps.0 ∙ c.loop-line.invariant.number in
+    record {
+      goes_on = ap (λ (n : ℕ). said_from n c.line.new.self c.next.new.self.lines) number ∙ sym one ∙ ap (said_from c.loop-line.last c.loop-line.self) (sym steps.2) ∙ c.loop-line.invariant.goes_on;
+      number = omega (arith, steps.0, steps.1);
+      few = omega (arith, number, ap length steps.2, c.loop-line.invariant.few);
+    }
 
 pub returns-then-is_done-2 : goal.returns-then-is_done-2
-returns-then-is_done-2 c = sym c.loop-line.invariant ∙ said_done c.loop-line.self c.loop-line.walk.lines (sym c.is_done-2.ensures ∙ c.if-is_done-2.true)
+returns-then-is_done-2 c = sym c.loop-line.invariant.goes_on ∙ said_done c.loop-line.last c.loop-line.self c.loop-line.walk.lines (sym c.is_done-2.ensures ∙ c.if-is_done-2.true)
 
 pub returns-else-is_done-2 : goal.returns-else-is_done-2
-returns-else-is_done-2 c = sym c.loop-line.invariant ∙ ap (said_from c.loop-line.self) c.in_default.ensures.steps.0 ∙ said_open c.loop-line.self (sym c.is_done-2.ensures ∙ c.if-is_done-2.false)
+returns-else-is_done-2 c = sym c.loop-line.invariant.goes_on ∙ ap (said_from c.loop-line.last c.loop-line.self) c.in_default.ensures.steps.0 ∙ said_open c.loop-line.last c.loop-line.self (sym c.is_done-2.ensures ∙ c.if-is_done-2.false)

@@ -1,0 +1,222 @@
+//! The factor of a basis: a square matrix, kept with a product of elementary factors that solves for it.
+#![tactic(auto)]
+
+mod anew;
+mod eta;
+mod sparse;
+
+use crate::eta::Eta;
+pub use crate::sparse::Entry;
+use bl_fixed::Fixed;
+use std::alloc::{AllocError, Global};
+use std::marker::Model;
+
+/// After this many replacements the product is made anew.
+const MOST_REPLACEMENTS: usize = 100;
+
+/// After this many it is made anew where it has grown much.
+const SOME_REPLACEMENTS: usize = 20;
+
+/// Grown much: so many times the entries that it had when it was last made anew, and so many per row.
+const GROWTH: usize = 4;
+
+const ENTRIES_PER_ROW: usize = 20;
+
+/// A square matrix with a product of elementary factors. Each factor swaps two entries, divides one by its pivot and
+/// takes its multiples off the others, and a number that leaves its range becomes the nearest end of it.
+#[derive(Drop)]
+pub struct Factor {
+    alloc: Global,
+    columns: Vec<Vec<Entry>>,
+    etas: Vec<Eta>,
+    // How many factors the product had when it was last made anew.
+    fresh: usize,
+}
+
+impl Model for Factor {
+    ghost use Rattle.bl_factor.specs.Factored.{Factored};
+
+    ghost Value = { Factored };
+
+    ghost use Rattle.bl_factor.specs.Kept.{factored_of, IsKept};
+
+    ghost view = { factored_of };
+
+    ghost invariant = { IsKept };
+}
+
+impl Factor {
+    ghost use Rattle.std.specs.Prelude.{◌≡◌, ◌<◌, ◌^◌, ◌⊎◌, ◌++◌, ◌∷◌, [], List, length, vec_len, slice_set, IfOk, IfSome, IfNone, OnOk, OnErr};
+    ghost use Rattle.bl_factor.specs.Sparse.{AreColumns, matrix_of};
+    ghost use Rattle.bl_factor.specs.Reduction.{IsStuck};
+    ghost use Rattle.bl_fixed.specs.declared.Fixed.{Fixed};
+    ghost use Rattle.bl_factor.specs.Vectors.{at, IsPivot};
+    ghost use Rattle.bl_factor.specs.Etas.{IsEta, elimination_of};
+    ghost use Rattle.bl_factor.specs.Factored.{size_of, image_of, transposed_image_of, unit_matrix, elimination_at, IsExact, AreModerate};
+
+    /// The unit matrix with that many columns.
+    pub fn identity(alloc: Global, size: u32) -> Result<Factor, AllocError>
+        ensures value { IfOk result (λ factor. factor ≡ record { matrix = unit_matrix size; steps = [] }) }
+        ensures size { IfOk result (λ factor. size_of factor ≡ size) }
+        ensures image { IfOk result (λ factor. (right : List Fixed) → image_of factor right ≡ right) }
+    {
+        let mut columns = Vec::with_capacity(alloc, size as usize)?;
+        for place in 0..size {
+            columns.push(sparse::unit(alloc, place)?)?;
+        }
+        Ok(Factor {
+            alloc,
+            columns,
+            etas: Vec::new(alloc),
+            fresh: 0,
+        })
+    }
+
+    /// The matrix with these columns, each of rising places below their number and without zeros. None where the
+    /// making of a product, which takes the shorter columns first, meets a column whose image has no number of raw
+    /// size 2^20 or more to take for a pivot, or a number of raw size 2^87 or more.
+    pub fn from_columns(
+        alloc: Global,
+        columns: Vec<Vec<Entry>>,
+    ) -> Result<Option<Factor>, AllocError>
+        requires short { vec_len columns < 2 ^ 32 }
+        requires sparse { AreColumns (vec_len columns) columns.items }
+        ensures matrix { IfOk result (λ made. IfSome made (λ factor. factor.matrix ≡ matrix_of (vec_len columns) columns.items)) }
+        ensures exact { IfOk result (λ made. IfSome made IsExact) }
+        ensures stuck { IfOk result (λ made. IfNone made (IsStuck (matrix_of (vec_len columns) columns.items))) }
+    {
+        match anew::made_anew(alloc, columns.as_slice())? {
+            Some(etas) => {
+                let fresh = etas.len();
+                Ok(Some(Factor {
+                    alloc,
+                    columns,
+                    etas,
+                    fresh,
+                }))
+            }
+            None => Ok(None),
+        }
+    }
+
+    /// Leaves in `right`, which has one entry per row, its image, which has one per column: but for rounding the
+    /// matrix times the image is `right`.
+    pub fn solve(&self, right: &mut [Fixed]) -> Result<(), AllocError>
+        requires { length right.old ≡ size_of self.now }
+        ensures image { OnOk result (right.new ≡ image_of self.now right.old) }
+
+        // The image of each column of the matrix is exactly a unit column, where no factor has very large numbers.
+        ensures exact { AreModerate self.now.steps → IsExact self.now }
+    {
+        eta::apply_all(self.etas.as_slice(), right);
+        Ok(())
+    }
+
+    /// The same for the transposed matrix: `right` has one entry per column, and its image one per row.
+    pub fn solve_transposed(&self, right: &mut [Fixed]) -> Result<(), AllocError>
+        requires { length right.old ≡ size_of self.now }
+        ensures { OnOk result (right.new ≡ transposed_image_of self.now right.old) }
+    {
+        eta::apply_all_transposed(self.etas.as_slice(), right);
+        Ok(())
+    }
+
+    /// Puts `column`, whose image has at `place` a raw size of at least 2^20, into the matrix at that place. The
+    /// product gets a factor for it, or is made anew from the matrix.
+    pub fn replace(&mut self, place: u32, column: &[Fixed]) -> Result<(), AllocError>
+        requires place_in { place < size_of self.old }
+        requires long { length column.now ≡ size_of self.old }
+        requires pivot { IsPivot (at (image_of self.old column.now) place) }
+        ensures matrix { OnOk result (self.new.matrix ≡ slice_set self.old.matrix place column.now) }
+        ensures size { size_of self.new ≡ size_of self.old }
+        ensures steps { OnOk result
+            ((self.new.steps ≡ self.old.steps ++ elimination_at place (image_of self.old column.now) ∷ []) ⊎ IsExact self.new) }
+        ensures exact { AreModerate self.new.steps → IsExact self.new }
+        ensures err { OnErr result (self.new ≡ self.old) }
+    {
+        let mut image = Vec::from_slice(self.alloc, column)?;
+        eta::apply_all(self.etas.as_slice(), image.as_mut_slice());
+        self.replace_solved(place, column, image.as_slice())
+    }
+
+    /// The same where `image` is the image of `column`, as `solve` leaves it: nothing is solved for again.
+    pub fn replace_solved(
+        &mut self,
+        place: u32,
+        column: &[Fixed],
+        image: &[Fixed],
+    ) -> Result<(), AllocError>
+        requires place_in { place < size_of self.old }
+        requires long { length column.now ≡ size_of self.old }
+        requires image { image.now ≡ image_of self.old column.now }
+        requires pivot { IsPivot (at image.now place) }
+        ensures matrix { OnOk result (self.new.matrix ≡ slice_set self.old.matrix place column.now) }
+        ensures size { size_of self.new ≡ size_of self.old }
+        ensures steps { OnOk result
+            ((self.new.steps ≡ self.old.steps ++ elimination_at place (image_of self.old column.now) ∷ []) ⊎ IsExact self.new) }
+        ensures exact { AreModerate self.new.steps → IsExact self.new }
+        ensures err { OnErr result (self.new ≡ self.old) }
+    {
+        self.extend(place as usize, column, image)?;
+        if self.is_due() {
+            self.renew();
+        }
+        Ok(())
+    }
+
+    // Puts the column in, and adds a factor for it.
+    fn extend(&mut self, place: usize, column: &[Fixed], image: &[Fixed]) -> Result<(), AllocError>
+        requires place_in { place < size_of self.old }
+        requires long { length column.now ≡ size_of self.old }
+        requires image { image.now ≡ image_of self.old column.now }
+        requires pivot { IsPivot (at image.now place) }
+        ensures matrix { OnOk result (self.new.matrix ≡ slice_set self.old.matrix place column.now) }
+        ensures steps { OnOk result (self.new.steps ≡ self.old.steps ++ elimination_at place (image_of self.old column.now) ∷ []) }
+        ensures exact { AreModerate self.new.steps → IsExact self.new }
+        ensures err { OnErr result (self.new ≡ self.old) }
+    {
+        let entries = sparse::entries_of(self.alloc, column, column.len())?;
+        let eta = self.replacing(place, column, image)?;
+        self.etas.push(eta)?;
+        self.columns[place] = entries;
+        Ok(())
+    }
+
+    // The factor for a column that is put in.
+    fn replacing(&self, place: usize, column: &[Fixed], image: &[Fixed]) -> Result<Eta, AllocError>
+        requires place_in { place < size_of self.now }
+        requires long { length column.now ≡ size_of self.now }
+        requires image { image.now ≡ image_of self.now column.now }
+        requires pivot { IsPivot (at image.now place) }
+        ensures eta { IfOk result (IsEta (size_of self.now)) }
+        ensures value { IfOk result (λ eta. elimination_of (size_of self.now) eta ≡ elimination_at place (image_of self.now column.now)) }
+    {
+        eta::make(self.alloc, place, place, image)
+    }
+
+    // Whether the product is to be made anew.
+    fn is_due(&self) -> bool {
+        let fresh = self.fresh.min(self.etas.len());
+        let replacements = self.etas.len() - fresh;
+        let fresh_entries = eta::entry_count(&self.etas.as_slice()[..fresh]);
+        let entries = eta::entry_count(self.etas.as_slice());
+        let has_grown = entries > fresh_entries.saturating_mul(GROWTH)
+            && entries > self.columns.len().saturating_mul(ENTRIES_PER_ROW);
+        replacements >= MOST_REPLACEMENTS || (replacements >= SOME_REPLACEMENTS && has_grown)
+    }
+
+    // Makes the product anew from the matrix; it stays where that finds no pivot or no memory.
+    fn renew(&mut self)
+        ensures matrix { self.new.matrix ≡ self.old.matrix }
+        ensures steps { (self.new ≡ self.old) ⊎ IsExact self.new }
+        ensures exact { AreModerate self.new.steps → IsExact self.new }
+    {
+        if let Ok(Some(etas)) = anew::made_anew(self.alloc, self.columns.as_slice()) {
+            self.fresh = etas.len();
+            self.etas = etas;
+        }
+    }
+}
+
+#[cfg(test)]
+mod tests;

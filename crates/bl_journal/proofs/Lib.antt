@@ -1,0 +1,17 @@
+pub mod Growth
+pub mod Living
+pub mod Leaves
+pub mod Cutoffs
+pub mod Coverage
+pub mod Meaning
+pub mod Children
+pub mod Sums
+pub mod Budget
+pub mod Lines
+pub mod Ties
+pub mod Chains
+pub mod Ranges
+pub mod Workable
+pub mod Rows
+pub mod Births
+pub mod Ends

@@ -1,0 +1,11 @@
+pub mod Kept
+pub mod Soundness
+pub mod Births
+pub mod Descriptions
+pub mod States
+pub mod Replies
+pub mod Pieces
+pub mod Freeing
+pub mod Legality
+pub mod Results
+pub mod Laws

@@ -1,0 +1,47 @@
+//! Laws over histories: each is what a function with nothing to do ensures, in the words of `specs/Laws.antt`.
+ghost use Rattle.bl_journal.specs.Laws.{NodesAreStable, LiveNodesCover, AnswersAreTrue, BudgetHolds, ChainsRebuild, LeasesAreWorkable, ChildrenFollow, SpanOneIsExplicit, RepliesEndSearches};
+
+/// A node that is born keeps its parent, depth, low number and path under every longer history, and so its description.
+pub fn nodes_are_stable()
+    ensures { NodesAreStable }
+{}
+
+/// In a legal history each feasible point below the best value lies in exactly one live node, and its value is at least that node's low number.
+pub fn live_nodes_cover()
+    ensures { LiveNodesCover }
+{}
+
+/// In a legal history the answer says of all feasible points what its variant means.
+pub fn answers_are_true()
+    ensures { AnswersAreTrue }
+{}
+
+/// In a legal history the takes less the backs are no more than the nodes that may be used; and they and the takes that may still come are together less than twice the number of the root's points. Where there is no point, no node ever lives.
+pub fn budget_holds()
+    ensures { BudgetHolds }
+{}
+
+/// In a legal history an unfreed relative node has an unfreed parent, and the chain of each unfreed node has at most `span` pieces, which applied in order give its description.
+pub fn chains_rebuild()
+    ensures { ChainsRebuild }
+{}
+
+/// In a legal history the description of a node that is out is whole and its box has a point, and its cuts are few, suit the problem, hold and have different ids.
+pub fn leases_are_workable()
+    ensures { LeasesAreWorkable }
+{}
+
+/// In a legal history a split gives each child the node's description after the common change, with the split's one bound set.
+pub fn children_follow()
+    ensures { ChildrenFollow }
+{}
+
+/// With span 1 each node is stored whole.
+pub fn span_one_is_explicit()
+    ensures { SpanOneIsExplicit }
+{}
+
+/// In a legal history a take is answered Done only where no node is live, and the answer is then final. It is answered Spent only where as many nodes are used as may be and a live node waits, and then twice the number of the root's points is greater by 2 or more than the number of nodes that may be used.
+pub fn replies_end_searches()
+    ensures { RepliesEndSearches }
+{}

@@ -1,0 +1,5 @@
+use Rattle.bl_mps.proofs.FirstFault.{tells_first_fault}
+use Rattle.bl_mps.proofs.laws.faults_are_first.Goals as goal
+
+pub returns : goal.returns
+returns c = tells_first_fault

@@ -1,0 +1,122 @@
+-- What the reading comes to, in other words.
+use Rattle.std.specs.Prelude.{◌≡◌, ◌≢◌, ◌⊎◌, ◌↔◌, ℕ, ◌+◌, ◌^◌, ◌≤◌, true, false, List, [], ◌∷◌, ◌++◌, length, All, Some, Ok, Err, ℤ, pos, ◌+ℤ◌, ◌*ℤ◌, ◌≤ℤ◌, nat_abs}
+use Rattle.bl_num.specs.declared.Decimal.{Decimal}
+use Rattle.bl_text.specs.Pieces.{lines_of}
+use Rattle.bl_problem.specs.Program.{Program}
+use Rattle.bl_mps.specs.declared.kind.What.{What}
+use Rattle.bl_mps.specs.declared.kind.What.TheVariants as what
+use Rattle.bl_mps.specs.declared.kind.Role.{Role}
+use Rattle.bl_mps.specs.declared.kind.Role.TheVariants.{Objective, Extra, AtMost, AtLeast, Equal}
+use Rattle.bl_mps.specs.Said.{Said, nothing_said}
+use Rattle.bl_mps.specs.Lines.{is_limited}
+use Rattle.bl_mps.specs.Meaning.{RowSaid, or_zero, places_of, low_end, high_end, finished}
+use Rattle.bl_mps.specs.Coherence.{IsRowRead}
+use Rattle.bl_mps.specs.Reading.{Fault, after_line, is_end, read_of}
+use Rattle.bl_mps.specs.Sections.{IsReadBySections}
+use Rattle.bl_mps.specs.Named.{IsNamedByLines}
+use Rattle.bl_mps.specs.Sets.{AreGivenByLines}
+
+-- ---- the first fault
+
+-- no line breaks a rule or comes behind the ENDATA line, and together they said this
+abbrev pub AreGood : Said → List (List ℕ) → Said → Type 0
+AreGood s [] t = s ≡ t
+AreGood s (line ∷ lines) t = (u : Said) × (is_end s.section ≡ false) × (after_line s line ≡ Ok u) × AreGood u lines t
+
+-- behind lines without a fault comes one that breaks a rule, and this is the first that it breaks
+pub record LineBreaks (start : Said) (lines : List (List ℕ)) (line : ℕ) (w : What) : Type 0 where
+  pub before : List (List ℕ)
+  pub here : List ℕ
+  pub after : List (List ℕ)
+  pub said : Said
+  pub parts : lines ≡ before ++ here ∷ after
+  pub good : AreGood start before said
+  pub open_still : is_end said.section ≡ false
+  pub broken : after_line said here ≡ Err w
+  pub number : line ≡ length before + 1
+
+-- no line breaks a rule, and none is the ENDATA line
+pub record EndIsMissing (start : Said) (lines : List (List ℕ)) (line : ℕ) (w : What) : Type 0 where
+  pub said : Said
+  pub good : AreGood start lines said
+  pub open_still : is_end said.section ≡ false
+  pub what_is : w ≡ what.NoEnd
+  pub number : line ≡ length lines + 1
+
+-- the lines up to the ENDATA line say this, none of them breaks a rule, and nothing behind is read
+pub record Ends (start : Said) (lines : List (List ℕ)) (line : ℕ) (said : Said) : Type 0 where
+  pub taken : List (List ℕ)
+  pub after : List (List ℕ)
+  pub parts : lines ≡ taken ++ after
+  pub good : AreGood start taken said
+  pub is_done : is_end said.section ≡ true
+  pub number : line ≡ length taken
+
+-- what was said at the ENDATA line breaks a rule, and this is the first that it breaks
+pub record WholeBreaks (start : Said) (lines : List (List ℕ)) (line : ℕ) (w : What) : Type 0 where
+  pub said : Said
+  pub ends : Ends start lines line said
+  pub broken : finished said ≡ Err w
+
+-- what was said at the ENDATA line means a problem
+pub record Means (start : Said) (lines : List (List ℕ)) (p : Program) : Type 0 where
+  pub said : Said
+  pub line : ℕ
+  pub ends : Ends start lines line said
+  pub sections : IsReadBySections lines said
+  pub named : IsNamedByLines lines said
+  pub given : AreGivenByLines lines said
+  pub meaning : finished said ≡ Ok p
+
+-- a fault that is told is the first
+abbrev pub TellsFirstFault : Type 0
+TellsFirstFault = (bytes : List ℕ) (f : Fault) → read_of bytes ≡ Err f →
+    LineBreaks nothing_said (lines_of bytes) f.line f.what ⊎ EndIsMissing nothing_said (lines_of bytes) f.line f.what ⊎ WholeBreaks nothing_said (lines_of bytes) f.line f.what
+
+-- a problem that is read is what the sections' lines say, with no fault before or at the ENDATA line
+abbrev pub TellsMeaning : Type 0
+TellsMeaning = (bytes : List ℕ) (p : Program) → read_of bytes ≡ Ok p → Means nothing_said (lines_of bytes) p
+
+-- every file has a problem or a fault, and none has both
+abbrev pub IsOne : Type 0
+IsOne = (bytes : List ℕ) →
+    (((p : Program) × (read_of bytes ≡ Ok p)) ⊎ ((f : Fault) × (read_of bytes ≡ Err f)))
+    × ((p : Program) (f : Fault) → read_of bytes ≡ Ok p → read_of bytes ≢ Err f)
+
+-- ---- rows
+
+-- the right side is the high end of a row of kind L, the low end of one of kind G, and of one of kind E the low end exactly where the range is not negative
+abbrev pub StandsAt : Role → ℤ → ℤ → ℤ → ℤ → Type 0
+StandsAt Objective b r low high = ⊥
+StandsAt Extra b r low high = ⊥
+StandsAt AtMost b r low high = high ≡ b
+StandsAt AtLeast b r low high = low ≡ b
+StandsAt Equal b r low high = (pos 0 ≤ℤ r → low ≡ b) × (r ≤ℤ pos 0 → high ≡ b)
+
+-- a row with a range has two ends, and they are the size of the range apart
+pub record HasRange (role : Role) (b r : ℤ) : Type 0 where
+  pub low : ℤ
+  pub high : ℤ
+  pub low_is : low_end role b (Some r) ≡ Some low
+  pub high_is : high_end role b (Some r) ≡ Some high
+  pub apart : high ≡ low +ℤ pos (nat_abs r)
+  pub stands : StandsAt role b r low high
+
+abbrev pub RangesWiden : Type 0
+RangesWiden = (role : Role) (b r : ℤ) → is_limited role ≡ true → HasRange role b r
+
+-- ---- the scale
+
+-- ten to the power n times the number is whole
+abbrev pub IsWholeIn : ℕ → Decimal → Type 0
+IsWholeIn n d = (z : ℤ) × (z *ℤ pos (10 ^ d.places) ≡ d.mantissa *ℤ pos (10 ^ n))
+
+-- the coefficients of a row, its right side and its range
+pub record AreWholeIn (n : ℕ) (r : RowSaid) : Type 0 where
+  pub entries : All (λ e. IsWholeIn n e.number) r.entries
+  pub right : IsWholeIn n r.right
+  pub range : IsWholeIn n (or_zero r.range)
+
+-- the powers of ten that make a row whole are those from its scale on
+abbrev pub ScaleIsLeast : Type 0
+ScaleIsLeast = (r : RowSaid) (n : ℕ) → IsRowRead r → (AreWholeIn n r ↔ (places_of r ≤ n))

@@ -1,0 +1,13 @@
+use Rattle.std.proofs.Common.{◌≡◌}
+use Rattle.bl_journal.specs.States.{used_of}
+use Rattle.bl_tree.specs.Views.{past_of}
+use Rattle.bl_run.specs.Searches.{IsBetweenTurns, settings_of}
+use Rattle.bl_run.proofs.search.search_tree.Given as goal
+
+abbrev pub invariant-loop : goal.invariant-loop
+invariant-loop l = record {
+  between : IsBetweenTurns l.tree;
+  problem : l.tree.problem ≡ l.initial.tree.problem;
+  settings : l.tree.settings ≡ settings_of l.nodes;
+  used : used_of (past_of l.tree) ≡ l.counter;
+}

@@ -1,0 +1,154 @@
+//! The work on one node: its box is halved, until it has one point, which is tested.
+ghost use Rattle.std.specs.Prelude.{◌≡◌, ◌<◌, ◌≤◌, ◌^◌, ◌≤ℤ◌, ◌<ℤ◌, ℕ, length, All, IfOk, IfSome, None};
+ghost use Rattle.bl_num.specs.Exact.{at};
+ghost use Rattle.bl_problem.specs.Sums.{IsWithin};
+ghost use Rattle.bl_problem.specs.Points.{trivial_bound_of};
+ghost use Rattle.bl_run.specs.Work.{IsWork, IsHalved, IsTested, IsHalvable, IsWidest, IsBelow, nothing};
+ghost use Rattle.bl_journal.specs.Descriptions.{left_child, right_child};
+
+use bl_desc::{Change, Desc, Piece};
+use bl_journal::{Next, Outcome};
+use bl_mods::{FieldMods, ListMods, Shared};
+use bl_problem::{Cut, Problem};
+use std::alloc::{AllocError, Global};
+
+// The wider of two columns, the earlier one of those that are equally wide; a column that has one value is none.
+fn wider(lows: &[i64], highs: &[i64], widest: Option<usize>, j: usize) -> Option<usize>
+    requires here { j < length lows.now }
+    requires there { j < length highs.now }
+    requires low_near { All (IsWithin (10 ^ 9)) lows.now }
+    requires high_near { All (IsWithin (10 ^ 9)) highs.now }
+    requires earlier { IfSome widest (λ k. (k < j) × (at lows.now k <ℤ at highs.now k)) }
+    ensures wide { IfSome result (λ k. (k ≤ j) × (at lows.now k <ℤ at highs.now k)) }
+    ensures none { result ≡ None → (widest ≡ None) × (at highs.now j ≤ℤ at lows.now j) }
+{
+    let width = highs[j] - lows[j];
+    match widest {
+        None => { if width > 0 { Some(j) } else { None } }
+        Some(k) => {
+            if width > highs[k] - lows[k] {
+                Some(j)
+            } else {
+                Some(k)
+            }
+        }
+    }
+}
+
+// A column that has more than one value: the first of the greatest width.
+fn widest(lows: &[i64], highs: &[i64]) -> Option<usize>
+    requires same { length highs.now ≡ length lows.now }
+    requires low_near { All (IsWithin (10 ^ 9)) lows.now }
+    requires high_near { All (IsWithin (10 ^ 9)) highs.now }
+    ensures { IsWidest lows.now highs.now result }
+{
+    let mut widest: Option<usize> = None;
+    for j in 0..lows.len() {
+        widest = wider(lows, highs, widest, j);
+    }
+    widest
+}
+
+// The middle of two numbers, rounded down.
+fn middle(low: i64, high: i64) -> i64
+    requires low { IsWithin (10 ^ 9) low }
+    requires high { IsWithin (10 ^ 9) high }
+    requires apart { low <ℤ high }
+    ensures above { low ≤ℤ result }
+    ensures below { result <ℤ high }
+{
+    low + (high - low) / 2
+}
+
+// The change of nothing.
+fn no_change(alloc: Global) -> Change<Cut>
+    ensures { result ≡ nothing }
+{
+    Change {
+        lows: FieldMods::new(alloc),
+        highs: FieldMods::new(alloc),
+        cuts: ListMods::new(alloc),
+        columns: FieldMods::new(alloc),
+        rows: FieldMods::new(alloc),
+        fresh: FieldMods::new(alloc),
+    }
+}
+
+// The description with another high of the column.
+fn left_half(desc: &Desc<Cut>, column: usize, at: i64) -> Result<Desc<Cut>, AllocError>
+    requires { column < length desc.now.highs }
+    ensures { IfOk result (λ half. half ≡ left_child desc.now column at) }
+{
+    let mut half = desc.duplicate()?;
+    half.highs.set(column, at);
+    Ok(half)
+}
+
+// The description with another low of the column.
+fn right_half(desc: &Desc<Cut>, column: usize, at: i64) -> Result<Desc<Cut>, AllocError>
+    requires column { column < length desc.now.lows }
+    requires near { IsWithin (10 ^ 9) at }
+    ensures { IfOk result (λ half. half ≡ right_child desc.now column at) }
+{
+    let mut half = desc.duplicate()?;
+    half.lows.set(column, at + 1);
+    Ok(half)
+}
+
+// The outcome that halves the box at a column.
+fn halve(alloc: Global, desc: &Desc<Cut>, low: i128, column: usize) -> Result<Outcome, AllocError>
+    requires halvable { IsHalvable desc.now }
+    requires column { column < length desc.now.lows }
+    requires wide { at desc.now.lows column <ℤ at desc.now.highs column }
+    ensures { IfOk result (λ outcome. IsHalved desc.now low outcome) }
+{
+    let lows = desc.lows.as_slice();
+    let highs = desc.highs.as_slice();
+    let at = middle(lows[column], highs[column]);
+    let left = Shared::new(alloc, left_half(desc, column, at)?)?;
+    let right = Shared::new(alloc, right_half(desc, column, at)?)?;
+    let common = Shared::new(alloc, no_change(alloc))?;
+    Ok(Outcome {
+        found: None,
+        low,
+        next: Next::Split {
+            common,
+            column: column as u32,
+            at,
+            left: Piece::Explicit(left),
+            right: Piece::Explicit(right),
+        },
+    })
+}
+
+// The outcome that tests the box's one point.
+fn test(problem: &Problem, desc: &Desc<Cut>, low: i128) -> Result<Outcome, AllocError>
+    ensures { IfOk result (λ outcome. IsTested problem.now desc.now low outcome) }
+{
+    let found = if problem.is_feasible(desc.lows.as_slice()) {
+        Some(desc.lows.duplicate_all()?)
+    } else {
+        None
+    };
+    Ok(Outcome {
+        found,
+        low,
+        next: Next::Shut,
+    })
+}
+
+/// The outcome of the work on a node with this description. `AllocError` where there is no memory.
+pub fn work(alloc: Global, problem: &Problem, desc: &Desc<Cut>) -> Result<Outcome, AllocError>
+    requires halvable { IsHalvable desc.now }
+    requires columns { length desc.now.lows ≡ length problem.now.columns }
+    ensures work { IfOk result (λ outcome. IsWork problem.now desc.now outcome) }
+    ensures below { IfOk result (λ outcome. IsBelow problem.now desc.now outcome.low) }
+{
+    let lows = desc.lows.as_slice();
+    let highs = desc.highs.as_slice();
+    let low = problem.trivial_bound(lows, highs);
+    match widest(lows, highs) {
+        Some(column) => halve(alloc, desc, low, column),
+        None => test(problem, desc, low),
+    }
+}

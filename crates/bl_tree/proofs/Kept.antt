@@ -1,0 +1,305 @@
+-- The records follow the history.
+use Rattle.std.proofs.Common.{◌≡◌, ℕ, zero, suc, ◌+◌, ◌-◌, ◌*◌, ◌<◌, ◌≤◌, List, [], ◌∷◌, ◌++◌, length, refl, ap, sym, ◌∙◌, subst, arith, Bool, true, false, cond, Some, None, Option, inl, inr, length-set}
+use Rattle.std.specs.Prelude.{slice_get, slice_set, count_by, reverse, ℤ, ◌==◌, nat_lt}
+use Rattle.std.proofs.lemmas.List.{reverse-append}
+use Rattle.std.proofs.lemmas.Bool.{cases_eq, eq-eqb, cond-true}
+use Rattle.std.proofs.lemmas.Option.{slice_get_within, get_or_from_slice_get}
+use Rattle.std.proofs.lemmas.List.Sums.{sum_by-set}
+use Rattle.bl_problem.specs.Program.{Program}
+use Rattle.bl_journal.specs.declared.entry.Entry.{Entry}
+use Rattle.bl_journal.specs.declared.entry.Entry.TheVariants.{Take, Back}
+use Rattle.bl_journal.specs.declared.settings.Settings.{Settings}
+use Rattle.bl_tree.specs.declared.record.Record.{Record}
+use Rattle.bl_tree.specs.declared.record.Stage.{Stage}
+use Rattle.bl_tree.specs.declared.record.Stage.TheVariants.{Waiting, Out, Parted, Closed, Gone}
+use Rattle.bl_journal.specs.Births.{nodes_of, node_at}
+use Rattle.bl_journal.specs.Descriptions.{full_of, full_along}
+use Rattle.bl_journal.specs.States.{waiting, out, state_of, has_point, used_of, best_of, value_if}
+use Rattle.bl_journal.specs.States.{is_below, Found}
+use Rattle.bl_journal.specs.declared.settings.Order.{Order}
+use Rattle.bl_journal.specs.declared.settings.Order.TheVariants.{Best, Depth}
+use Rattle.bl_journal.specs.Replies.{reply_for, first_below, next_of, waits_live, goes_before, is_waiting, is_out, any_out, any_below, take_reply, gives}
+use Rattle.bl_journal.proofs.Living.{take_gives}
+use Rattle.bl_tree.proofs.Searches.{first_below-same}
+use Rattle.bl_problem.specs.declared.cut.Cut.{Cut}
+use Rattle.bl_desc.specs.declared.desc.Desc.{Desc}
+use Rattle.bl_desc.specs.declared.desc.Piece.{Piece}
+use Rattle.bl_desc.specs.declared.desc.Piece.TheVariants.{Explicit}
+use Rattle.bl_tree.specs.Views.{TreeView, LeaseView}
+use Rattle.bl_tree.specs.Calls.{IsTaken}
+use Rattle.bl_journal.specs.Pieces.{stored_of, chain_along, chained, chain_of}
+use Rattle.bl_journal.specs.States.{cutoff_of}
+use Rattle.bl_tree.specs.Records.{stage_state, is_out_stage, is_waiting_stage, is_out_if, is_below_value, waits, waits_if, precedes, precedes_if, IsRecordOf, AreRecords, IsKept}
+use Rattle.bl_journal.proofs.Sums.{one_if}
+use Rattle.bl_journal.proofs.Births.{stored_explicit}
+use Rattle.bl_journal.proofs.Leaves.{shape, out_born, state_kept}
+
+pub reverse-push : (history : List Entry) (e : Entry) → reverse (history ++ e ∷ []) ≡ e ∷ reverse history
+reverse-push history e = reverse-append history (e ∷ [])
+
+pub slice_get-set : {X : Type 0} (xs : List X) (i k : ℕ) (y q : X) → slice_get (slice_set xs i y) k ≡ Some q → (k ≡ i → y ≡ q) × ((k ≡ i → ⊥) → slice_get xs k ≡ Some q)
+slice_get-set [] i k y q e = (λ _. cc, λ _. cc)
+slice_get-set (x ∷ xs) zero zero y q e = (λ _. cc, λ ne. absurd (ne refl))
+slice_get-set (x ∷ xs) zero (suc k) y q e = (λ h. absurd (omega (arith, h)), λ _. e)
+slice_get-set (x ∷ xs) (suc i) zero y q e = (λ h. absurd (omega (arith, h)), λ _. e)
+slice_get-set (x ∷ xs) (suc i) (suc k) y q e =
+    let r = slice_get-set xs i k y q e in
+    (λ h. r.0 (omega (arith, h)), λ ne. r.1 (λ h. ne (ap suc h)))
+
+pub count_by-set : {X : Type 0} (test : X → Bool) (xs : List X) (i : ℕ) (y r : X) → slice_get xs i ≡ Some r
+    → count_by test (slice_set xs i y) + one_if (test r) ≡ count_by test xs + one_if (test y)
+count_by-set {X} test xs i y r e =
+    let f : X → ℕ = λ x. cond (test x) 1 0 in
+    let h = sum_by-set f xs i y r (slice_get_within xs i r e) in
+    subst (λ (z : X). count_by test (slice_set xs i y) + one_if (test z) ≡ count_by test xs + one_if (test y)) (get_or_from_slice_get xs i r r e) h
+
+-- one record gets another stage
+pub records_set : (p : Program) (past past' : List Entry) (kept : List Record) (id : ℕ) (r : Record) (st : Stage)
+    → nodes_of p past' ≡ nodes_of p past → stage_state st ≡ state_of past' id → ((k : ℕ) → (k ≡ id → ⊥) → state_of past' k ≡ state_of past k)
+    → AreRecords p past kept → slice_get kept id ≡ Some r → AreRecords p past' (slice_set kept id (record r { stage = st }))
+records_set p past past' kept id r st nodes now others rs e =
+    record {
+      count = length-set kept id (record r { stage = st }) ∙ (rs.count ∙ ap length (sym nodes));
+      each = λ k q h. at k q (slice_get-set kept id k (record r { stage = st }) q h);
+    }
+  where
+    same_node : (k : ℕ) → node_at p past k ≡ node_at p past' k
+    same_node k = rw nodes refl
+
+    at : (k : ℕ) (q : Record) → (k ≡ id → (record r { stage = st }) ≡ q) × ((k ≡ id → ⊥) → slice_get kept k ≡ Some q) → IsRecordOf p past' k q
+    at k q s =
+        elim (cases_eq k id) [
+          | inl same ↦
+              let old = rs.each id r e in
+              let new : IsRecordOf p past' id (record r { stage = st }) =
+              record {
+                depth = old.depth ∙ ap (λ n. n.depth) (same_node id);
+                low = old.low ∙ ap (λ n. n.low) (same_node id);
+                stage = now;
+                has_point = old.has_point ∙ ap (λ n. has_point (full_along p n.path).lows (full_along p n.path).highs) (same_node id);
+                piece = old.piece ∙ ap (λ n. Explicit (full_along p n.path)) (same_node id);
+              } in
+              subst (λ (m : ℕ). IsRecordOf p past' m q) (sym same) (subst (λ (z : Record). IsRecordOf p past' id z) (s.0 same) new)
+          | inr other ↦
+              let old = rs.each k q (s.1 other) in
+              record {
+                depth = old.depth ∙ ap (λ n. n.depth) (same_node k);
+                low = old.low ∙ ap (λ n. n.low) (same_node k);
+                stage = old.stage ∙ sym (others k other);
+                has_point = old.has_point ∙ ap (λ n. has_point (full_along p n.path).lows (full_along p n.path).highs) (same_node k);
+                piece = old.piece ∙ ap (λ n. Explicit (full_along p n.path)) (same_node k);
+              }
+        ]
+
+pub kept_born : (p : Program) (s : Settings) (past : List Entry) (room capacity : ℕ) (kept : List Record) (taken : ℕ) (best : Option ℤ) (id seat : ℕ)
+    → IsKept p s past room capacity kept taken best → state_of past id ≡ out seat → id < length kept
+kept_born p s past room capacity kept taken best id seat k o =
+    let b : id < length (nodes_of p past) = out_born p past id seat (shape p s past k.legal) o in
+    let c : length kept ≡ length (nodes_of p past) = k.records.count in
+    omega (arith, b, c)
+
+-- a node that is out has room for its own put or back
+pub kept_out : (p : Program) (s : Settings) (past : List Entry) (room capacity : ℕ) (kept : List Record) (taken : ℕ) (best : Option ℤ) (id seat : ℕ) (r : Record)
+    → IsKept p s past room capacity kept taken best → state_of past id ≡ out seat → slice_get kept id ≡ Some r
+    → (0 < count_by (λ r. is_out_stage r.stage) kept) × (is_out_stage r.stage ≡ true)
+kept_out p s past room capacity kept taken best id seat r k o e =
+    let st : is_out_stage r.stage ≡ true = out_stage r.stage ((k.records.each id r e).stage ∙ o) in
+    let c = count_by-set (λ (q : Record). is_out_stage q.stage) kept id (record r { stage = Waiting }) r e in
+    let one : one_if (is_out_stage r.stage) ≡ 1 = ap one_if st in
+    (omega (arith, c, one), st)
+  where
+    out_stage : (t : Stage) → stage_state t ≡ out seat → is_out_stage t ≡ true
+    out_stage Waiting h = cc
+    out_stage (Out t) h = refl
+    out_stage Parted h = cc
+    out_stage Closed h = cc
+    out_stage Gone h = cc
+
+pub kept_back : (p : Program) (s : Settings) (past : List Entry) (room room' capacity : ℕ) (kept : List Record) (taken : ℕ) (best : Option ℤ) (id seat : ℕ) (r : Record)
+    → IsKept p s past room capacity kept taken best → state_of past id ≡ out seat → slice_get kept id ≡ Some r → room' + 1 ≡ room
+    → IsKept p s (Back seat id ∷ past) room' capacity (slice_set kept id (record r { stage = Waiting })) (taken - 1) best
+kept_back p s past room room' capacity kept taken best id seat r k o e less =
+    let c = count_by-set (λ (q : Record). is_out_stage q.stage) kept id (record r { stage = Waiting }) r e in
+    let f = kept_out p s past room capacity kept taken best id seat r k o e in
+    let one : one_if (is_out_stage r.stage) ≡ 1 = ap one_if f.1 in
+    let before : count_by (λ r. is_out_stage r.stage) kept ≤ room = k.room_is in
+    let outs : count_by (λ r. is_out_stage r.stage) kept ≤ taken = k.outs in
+    let size : length kept + 2 * count_by (λ r. is_out_stage r.stage) kept ≤ 2 * taken + 1 = k.size in
+    let budget : taken ≤ s.nodes = k.budget in
+    let same : length (slice_set kept id (record r { stage = Waiting })) ≡ length kept = length-set kept id (record r { stage = Waiting }) in
+    record {
+      legal = (o, k.legal);
+      span = k.span;
+      records = records_set p past (Back seat id ∷ past) kept id r Waiting refl
+          (sym (cond-true (id == id) waiting (state_of past id) (eq-eqb id id refl)))
+          (λ q ne. state_kept q id (state_of past q) waiting (λ h. ne (sym h)))
+          k.records e;
+      used = ap (λ n. n - 1) k.used;
+      best_is = k.best_is;
+      room_is = omega (arith, c, one, before, less);
+      capacity_is = let cap : length kept + 2 * count_by (λ r. is_out_stage r.stage) kept ≤ capacity = k.capacity_is in omega (arith, c, one, cap, same);
+      outs = omega (arith, c, one, outs);
+      size = omega (arith, c, one, outs, size, same);
+      budget = omega (arith, budget);
+      few = k.few;
+    }
+
+pub has_record : (p : Program) (past : List Entry) (kept : List Record) (i : ℕ) → AreRecords p past kept → i < length kept → (r : Record) × (slice_get kept i ≡ Some r)
+has_record p past kept i rs h = some_at kept i h
+  where
+    some_at : (xs : List Record) (i : ℕ) → i < length xs → (r : Record) × (slice_get xs i ≡ Some r)
+    some_at [] i h = absurd (omega arith)
+    some_at (x ∷ xs) zero h = (x, refl)
+    some_at (x ∷ xs) (suc i) h = some_at xs i (omega arith)
+
+-- the record's tests are those of the node
+pub waits_same : (p : Program) (past : List Entry) (i : ℕ) (r : Record) (best : Option ℤ) → best ≡ value_if (best_of p past) → IsRecordOf p past i r → waits best r ≡ waits_live p past i
+waits_same p past i r best b f =
+    let w : is_waiting_stage r.stage ≡ is_waiting (state_of past i) = same_stage r.stage ∙ ap is_waiting f.stage in
+    let v : is_below_value r.low best ≡ is_below (node_at p past i).low (best_of p past) =
+    ap (λ o. is_below_value r.low o) b ∙ (ap (λ n. is_below_value n (value_if (best_of p past))) f.low ∙ same_below (node_at p past i).low (best_of p past)) in
+    let h : r.has_point ≡ has_point (full_of p past i).lows (full_of p past i).highs = f.has_point in
+    cc
+  where
+    same_stage : (t : Stage) → is_waiting_stage t ≡ is_waiting (stage_state t)
+    same_stage Waiting = refl
+    same_stage (Out seat) = refl
+    same_stage Parted = refl
+    same_stage Closed = refl
+    same_stage Gone = refl
+
+    same_below : (n : ℤ) (o : Option Found) → is_below_value n (value_if o) ≡ is_below n o
+    same_below n None = refl
+    same_below n (Some b) = refl
+
+pub out_same : (t : Stage) → is_out_stage t ≡ is_out (stage_state t)
+out_same Waiting = refl
+out_same (Out seat) = refl
+out_same Parted = refl
+out_same Closed = refl
+out_same Gone = refl
+
+pub precedes_same : (p : Program) (past : List Entry) (order : Order) (i j : ℕ) (a b : Record) → IsRecordOf p past i a → IsRecordOf p past j b
+    → precedes order a b ≡ goes_before order (node_at p past i) (node_at p past j)
+precedes_same p past Best i j a b f g =
+    let x : a.low ≡ (node_at p past i).low = f.low in let y : b.low ≡ (node_at p past j).low = g.low in cc
+precedes_same p past Depth i j a b f g =
+    let x : a.low ≡ (node_at p past i).low = f.low in let y : b.low ≡ (node_at p past j).low = g.low in
+    let u : a.depth ≡ (node_at p past i).depth = f.depth in let v : b.depth ≡ (node_at p past j).depth = g.depth in cc
+
+-- the first among the records is the next node
+pub next_same : (p : Program) (s : Settings) (past : List Entry) (kept : List Record) (best : Option ℤ) → AreRecords p past kept → best ≡ value_if (best_of p past)
+    → first_below (λ i j. precedes_if s.order (slice_get kept i) (slice_get kept j)) (λ i. waits_if best (slice_get kept i)) (length kept) ≡ next_of p s past
+next_same p s past kept best rs b =
+    first_below-same (λ i j. precedes_if s.order (slice_get kept i) (slice_get kept j)) (λ i j. goes_before s.order (node_at p past i) (node_at p past j))
+    (λ i. waits_if best (slice_get kept i)) (waits_live p past) (length kept)
+    (λ i j hi hj. let x = has_record p past kept i rs hi in let y = has_record p past kept j rs hj in
+    ap (λ o. precedes_if s.order o (slice_get kept j)) x.1 ∙ (ap (λ o. precedes_if s.order (Some x.0) o) y.1
+    ∙ precedes_same p past s.order i j x.0 y.0 (rs.each i x.0 x.1) (rs.each j y.0 y.1)))
+    (λ i hi. let x = has_record p past kept i rs hi in ap (waits_if best) x.1 ∙ waits_same p past i x.0 best b (rs.each i x.0 x.1))
+    ∙ ap (first_below (λ i j. goes_before s.order (node_at p past i) (node_at p past j)) (waits_live p past)) rs.count
+
+any_below-same : (f g : ℕ → Bool) (n : ℕ) → ((i : ℕ) → i < n → f i ≡ g i) → any_below f n ≡ any_below g n
+any_below-same f g zero h = refl
+any_below-same f g (suc n) h =
+    let ih : any_below f n ≡ any_below g n = any_below-same f g n (λ i k. h i (omega (arith, k))) in
+    let e : f n ≡ g n = h n (omega arith) in cc
+
+pub any_out_same : (p : Program) (past : List Entry) (kept : List Record) → AreRecords p past kept → any_below (λ i. is_out_if (slice_get kept i)) (length kept) ≡ any_out p past
+any_out_same p past kept rs =
+    any_below-same (λ i. is_out_if (slice_get kept i)) (λ id. is_out (state_of past id)) (length kept)
+    (λ i hi. let x = has_record p past kept i rs hi in ap is_out_if x.1 ∙ (out_same x.0.stage ∙ ap is_out (rs.each i x.0 x.1).stage))
+    ∙ ap (any_below (λ id. is_out (state_of past id))) rs.count
+
+pub kept_take : (p : Program) (s : Settings) (past : List Entry) (room room' capacity capacity' : ℕ) (kept : List Record) (taken : ℕ) (best : Option ℤ) (id seat : ℕ) (r : Record)
+    → IsKept p s past room capacity kept taken best → take_reply p s past ≡ gives id → slice_get kept id ≡ Some r → taken < s.nodes → count_by (λ r. is_out_stage r.stage) kept + 1 ≤ room'
+    → length kept + 2 * (count_by (λ r. is_out_stage r.stage) kept + 1) ≤ capacity'
+    → IsKept p s (Take seat id ∷ past) room' capacity' (slice_set kept id (record r { stage = Out seat })) (taken + 1) best
+kept_take p s past room room' capacity capacity' kept taken best id seat r k t e left fits holds =
+    let g = take_gives p s past id t in
+    let was : is_out_stage r.stage ≡ false = not_out r.stage (ap is_waiting (k.records.each id r e).stage ∙ g.waits) in
+    let none : one_if (is_out_stage r.stage) ≡ 0 = ap one_if was in
+    let c = count_by-set (λ (q : Record). is_out_stage q.stage) kept id (record r { stage = Out seat }) r e in
+    let outs : count_by (λ r. is_out_stage r.stage) kept ≤ taken = k.outs in
+    let size : length kept + 2 * count_by (λ r. is_out_stage r.stage) kept ≤ 2 * taken + 1 = k.size in
+    let same : length (slice_set kept id (record r { stage = Out seat })) ≡ length kept = length-set kept id (record r { stage = Out seat }) in
+    record {
+      legal = (t, k.legal);
+      span = k.span;
+      records = records_set p past (Take seat id ∷ past) kept id r (Out seat) refl
+          (sym (cond-true (id == id) (out seat) (state_of past id) (eq-eqb id id refl)))
+          (λ q ne. state_kept q id (state_of past q) (out seat) (λ h. ne (sym h)))
+          k.records e;
+      used = ap (λ n. n + 1) k.used;
+      best_is = k.best_is;
+      room_is = omega (arith, c, none, fits);
+      capacity_is = omega (arith, c, none, holds, same);
+      outs = omega (arith, c, none, outs);
+      size = omega (arith, c, none, size, same);
+      budget = omega (arith, left);
+      few = k.few;
+    }
+  where
+    not_out : (t : Stage) → is_waiting (stage_state t) ≡ true → is_out_stage t ≡ false
+    not_out Waiting h = refl
+    not_out (Out q) h = sym h
+    not_out Parted h = refl
+    not_out Closed h = refl
+    not_out Gone h = refl
+
+pub kept_reply : (p : Program) (s : Settings) (past : List Entry) (room capacity : ℕ) (kept : List Record) (taken : ℕ) (best : Option ℤ) → IsKept p s past room capacity kept taken best
+    → (xs : List Record) → xs ≡ kept → (first : Option ℕ)
+    → first ≡ first_below (λ i j. precedes_if s.order (slice_get xs i) (slice_get xs j)) (λ i. waits_if best (slice_get xs i)) (length xs)
+    → take_reply p s past ≡ reply_for first (nat_lt taken s.nodes) (any_out p past)
+unfolding take_reply
+kept_reply p s past room capacity kept taken best k xs same first f =
+    let P : List Record → Type 0 = λ ys. first ≡ first_below (λ i j. precedes_if s.order (slice_get ys i) (slice_get ys j)) (λ i. waits_if best (slice_get ys i)) (length ys) in
+    let a : first ≡ next_of p s past = subst P same f ∙ next_same p s past kept best k.records k.best_is in
+    let d : taken ≡ used_of past = k.used in
+    cc
+
+-- more room
+pub kept_room : (p : Program) (s : Settings) (past : List Entry) (room room' capacity capacity' : ℕ) (kept : List Record) (taken : ℕ) (best : Option ℤ) → IsKept p s past room capacity kept taken best
+    → room ≤ room' → capacity ≤ capacity' → IsKept p s past room' capacity' kept taken best
+kept_room p s past room room' capacity capacity' kept taken best k more wider =
+    let r : count_by (λ r. is_out_stage r.stage) kept ≤ room = k.room_is in
+    record { legal = k.legal; span = k.span; records = k.records; used = k.used; best_is = k.best_is; room_is = omega (arith, r, more); capacity_is = let cap : length kept + 2 * count_by (λ r. is_out_stage r.stage) kept ≤ capacity = k.capacity_is in omega (arith, cap, wider); outs = k.outs; size = k.size; budget = k.budget; few = k.few }
+
+-- with span 1 a chain is one explicit piece
+pub chain_along-last : (p : Program) (s : Settings) (past : List Entry) (chain : List (Piece Cut)) (ids : List ℕ) (id : ℕ) → s.span ≡ 1
+    → chain_along p s past chain (ids ++ id ∷ []) ≡ Explicit (full_of p past id) ∷ []
+chain_along-last p s past chain [] id e = ap (chained chain) (stored_explicit p s past id e)
+chain_along-last p s past chain (i ∷ ids) id e = chain_along-last p s past (chained chain (stored_of p s past i)) ids id e
+
+-- the lease of a node that was just taken
+pub taken_lease : (p : Program) (s : Settings) (history : List Entry) (kept : List Record) (best : Option ℤ) (id seat : ℕ) (r : Record) (desc : Desc Cut)
+    → s.span ≡ 1 → AreRecords p (reverse history) kept → best ≡ value_if (best_of p (reverse history)) → slice_get kept id ≡ Some r → r.piece ≡ Explicit desc
+    → take_reply p s (reverse history) ≡ gives id
+    → IsTaken (record { problem = p; settings = s; history = history }) seat (record { id = id; depth = r.depth; low = r.low; cutoff = best; chain = Explicit desc ∷ [] })
+    (record { problem = p; settings = s; history = history ++ Take seat id ∷ [] })
+taken_lease p s history kept best id seat r desc span rs b e d t =
+    let past : List Entry = reverse history in
+    let f = rs.each id r e in
+    let self : (id == id) ≡ true = eq-eqb id id refl in
+    let is_full : desc ≡ full_of p past id = (let g : Explicit desc ≡ Explicit (full_of p past id) = sym d ∙ f.piece in cc) in
+    let turned : reverse (history ++ Take seat id ∷ []) ≡ Take seat id ∷ past = reverse-push history (Take seat id) in
+    let o : state_of (Take seat id ∷ past) id ≡ out seat = cond-true (id == id) (out seat) (state_of past id) self in
+    let c : best ≡ cutoff_of p (Take seat id ∷ past) id = b ∙ sym (cond-true (id == id) (value_if (best_of p past)) (cutoff_of p past id) self) in
+    let ch : Explicit desc ∷ [] ≡ chain_of p s (Take seat id ∷ past) id =
+    ap (λ (x : Desc Cut). Explicit x ∷ []) is_full ∙ sym (chain_along-last p s (Take seat id ∷ past) [] (node_at p past id).ancestors id span) in
+    record {
+      reply = t;
+      entry = refl;
+      leased = record {
+        is_out = ap (λ h. state_of h id) turned ∙ o;
+        depth = f.depth ∙ ap (λ h. (node_at p h id).depth) (sym turned);
+        low = f.low ∙ ap (λ h. (node_at p h id).low) (sym turned);
+        cutoff = c ∙ ap (λ h. cutoff_of p h id) (sym turned);
+        chain = ap Some is_full ∙ ap (λ h. Some (full_of p h id)) (sym turned);
+      };
+      chain = ch ∙ ap (λ h. chain_of p s h id) (sym turned);
+    }
+
+pub IsTaken-moved : {old old' new new' : TreeView} {lease lease' : LeaseView} {seat : ℕ} → old ≡ old' → lease ≡ lease' → new ≡ new' → IsTaken old seat lease new → IsTaken old' seat lease' new'
+IsTaken-moved {old} {old'} {new} {new'} {lease} {lease'} {seat} a b d t =
+    subst (λ (o : TreeView). IsTaken o seat lease' new') a (subst (λ (m : LeaseView). IsTaken old seat m new') b (subst (λ (n : TreeView). IsTaken old seat lease n) d t))

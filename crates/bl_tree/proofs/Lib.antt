@@ -1,0 +1,10 @@
+pub mod Searches
+pub mod Kept
+pub mod Puts
+pub mod Boxed
+pub mod Handed
+pub mod Counted
+pub mod Standing
+pub mod Lows
+pub mod Roots
+pub mod Waits

@@ -1,0 +1,230 @@
+-- The low numbers of the live nodes, and the weights of the pieces.
+use Rattle.std.proofs.Common.{◌≡◌, ℕ, zero, suc, ◌+◌, ◌<◌, ◌≤◌, List, [], ◌∷◌, ◌++◌, length, get_or, refl, ap, sym, ◌∙◌, subst, arith, Bool, true, false, cond, not, Some, None, Option, All}
+use Rattle.std.specs.Prelude.{slice_get, take, map, filter, sum_by, reverse, nat_lt, ℤ, ◌||◌, ◌&&◌}
+use Rattle.std.specs.Int.{int_min}
+use Rattle.std.proofs.lemmas.List.{take_all, map-append, append-nil}
+use Rattle.std.proofs.lemmas.Bool.{lt-ltb, le-ltb, cond-true, cond-false}
+use Rattle.bl_problem.specs.declared.cut.Cut.{Cut}
+use Rattle.bl_desc.specs.declared.desc.Piece.{Piece}
+use Rattle.std.proofs.lemmas.List.Elements.{filter-append, filter_more}
+use Rattle.std.proofs.lemmas.List.Sums.{fold-append, sum_by_more, sum_by-append}
+use Rattle.std.proofs.lemmas.Option.{get_or_from_slice_get, slice_get_within}
+use Rattle.bl_problem.specs.Program.{Program, IsProgram}
+use Rattle.bl_desc.specs.Weights.{weight_of, HasShortLists, DescHasShortLists}
+use Rattle.bl_journal.specs.declared.entry.Entry.{Entry}
+use Rattle.bl_journal.specs.declared.settings.Settings.{Settings}
+use Rattle.bl_journal.specs.Births.{nodes_of, node_at}
+use Rattle.bl_journal.specs.Descriptions.{full_of}
+use Rattle.bl_journal.specs.States.{State, waiting, out, split, shut, freed, state_of, is_live, is_live_in, is_open, best_of, value_if, Found}
+use Rattle.bl_journal.specs.Replies.{ids_below, is_waiting, is_out}
+use Rattle.bl_journal.specs.Pieces.{stored_of, held_of, is_freed}
+use Rattle.bl_journal.specs.Results.{live_ids, lows_of, answer_of, answer_for}
+use Rattle.bl_tree.specs.declared.record.Record.{Record}
+use Rattle.bl_tree.specs.declared.record.Stage.{Stage}
+use Rattle.bl_tree.specs.declared.record.Stage.TheVariants.{Waiting, Out, Parted, Closed, Gone}
+use Rattle.bl_tree.specs.Records.{stage_state, is_out_stage, waits, lives, live_lows, least_if, least_with, is_kept_stage, record_weight, piece_if, AreRecords, IsRecordOf}
+use Rattle.bl_journal.specs.Legality.{IsLegalPast}
+use Rattle.bl_journal.proofs.Sums.{total}
+use Rattle.bl_journal.proofs.Lines.{full_whole, full_columns, full_rows}
+use Rattle.bl_journal.proofs.Workable.{cuts_fine}
+use Rattle.bl_tree.specs.Answers.{stored_for, verdict_from}
+use Rattle.bl_journal.proofs.Births.{stored_explicit}
+use Rattle.bl_tree.proofs.Kept.{has_record, waits_same, out_same}
+
+-- one more low number
+pub least_if-push : (lows : List ℤ) (low : ℤ) → least_if (lows ++ low ∷ []) ≡ least_with (least_if lows) low
+least_if-push [] low = refl
+least_if-push (a ∷ lows) low = ap Some (fold-append int_min a lows (low ∷ []))
+
+-- one more record
+pub least_more : (best : Option ℤ) (records : List Record) (i : ℕ) (r : Record) (o : Option ℤ) → i < length records → r ≡ get_or records i r → o ≡ least_if (live_lows best (take i records))
+    → least_if (live_lows best (take (i + 1) records)) ≡ cond (lives best r) (least_with o r.low) o
+least_more best records i r o here is e =
+    let a : filter (lives best) (take (i + 1) records) ≡ filter (lives best) (take i records) ++ cond (lives best (get_or records i r)) (get_or records i r ∷ []) [] = filter_more (lives best) records i r here in
+    let b : filter (lives best) (take (i + 1) records) ≡ filter (lives best) (take i records) ++ cond (lives best r) (r ∷ []) [] =
+    a ∙ ap (λ (q : Record). filter (lives best) (take i records) ++ cond (lives best q) (q ∷ []) []) (sym is) in
+    ap (λ (rs : List Record). least_if (map (λ (q : Record). q.low) rs)) b ∙ by_test (lives best r)
+  where
+    front : List Record
+    front = filter (lives best) (take i records)
+
+    by_test : (t : Bool) → least_if (map (λ (q : Record). q.low) (filter (lives best) (take i records) ++ cond t (r ∷ []) [])) ≡ cond t (least_with o r.low) o
+    by_test true =
+        ap least_if (map-append (λ (q : Record). q.low) (filter (lives best) (take i records)) (r ∷ [])) ∙ (least_if-push (live_lows best (take i records)) r.low ∙ ap (λ (x : Option ℤ). least_with x r.low) (sym e))
+    by_test false =
+        ap (λ (rs : List Record). least_if (map (λ (q : Record). q.low) rs)) (append-nil (filter (lives best) (take i records))) ∙ sym e
+
+-- a record lives where its node does
+pub lives_same : (p : Program) (past : List Entry) (i : ℕ) (r : Record) (best : Option ℤ) → best ≡ value_if (best_of p past) → IsRecordOf p past i r → lives best r ≡ is_live p past i
+lives_same p past i r best b f =
+    let w : waits best r ≡ (is_waiting (state_of past i) && is_open p past i) = waits_same p past i r best b f in
+    let o : is_out_stage r.stage ≡ is_out (state_of past i) = out_same r.stage ∙ ap is_out f.stage in
+    ap (λ (t : Bool). t || waits best r) o ∙ (ap (λ (t : Bool). is_out (state_of past i) || t) w ∙ by_state (state_of past i))
+  where
+    by_state : (s : State) → (is_out s || (is_waiting s && is_open p past i)) ≡ is_live_in s (is_open p past i)
+    by_state waiting = refl
+    by_state (out seat) = refl
+    by_state split = refl
+    by_state shut = refl
+    by_state freed = refl
+
+lows_below : (p : Program) (past : List Entry) (kept : List Record) (best : Option ℤ) → best ≡ value_if (best_of p past) → AreRecords p past kept → (n : ℕ) → n ≤ length kept
+    → live_lows best (take n kept) ≡ lows_of p past (filter (is_live p past) (ids_below n))
+lows_below p past kept best b rs zero h = refl
+lows_below p past kept best b rs (suc n) h =
+    let within : n < length kept = omega (arith, h) in
+    let x = has_record p past kept n rs within in
+    let r : Record = x.0 in
+    let is : get_or kept n r ≡ r = get_or_from_slice_get kept n r r x.1 in
+    let f : IsRecordOf p past n r = rs.each n r x.1 in
+    let ih : live_lows best (take n kept) ≡ lows_of p past (filter (is_live p past) (ids_below n)) = lows_below p past kept best b rs n (omega (arith, h)) in
+    let low : Record → ℤ = λ q. q.low in
+    let next : n + 1 ≡ suc n = omega arith in
+    let a : filter (lives best) (take (n + 1) kept) ≡ filter (lives best) (take n kept) ++ cond (lives best (get_or kept n r)) (get_or kept n r ∷ []) [] = filter_more (lives best) kept n r within in
+    let a' : filter (lives best) (take (n + 1) kept) ≡ filter (lives best) (take n kept) ++ cond (is_live p past n) (r ∷ []) [] =
+    a ∙ (ap (λ (q : Record). filter (lives best) (take n kept) ++ cond (lives best q) (q ∷ []) []) is
+    ∙ ap (λ (t : Bool). filter (lives best) (take n kept) ++ cond t (r ∷ []) []) (lives_same p past n r best b f)) in
+    let c : filter (is_live p past) (ids_below (suc n)) ≡ filter (is_live p past) (ids_below n) ++ cond (is_live p past n) (n ∷ []) [] = filter-append (is_live p past) (ids_below n) (n ∷ []) in
+    let d : live_lows best (take (n + 1) kept) ≡ live_lows best (take n kept) ++ map low (cond (is_live p past n) (r ∷ []) []) =
+    ap (map low) a' ∙ map-append low (filter (lives best) (take n kept)) (cond (is_live p past n) (r ∷ []) []) in
+    let e : lows_of p past (filter (is_live p past) (ids_below (suc n))) ≡ lows_of p past (filter (is_live p past) (ids_below n)) ++ lows_of p past (cond (is_live p past n) (n ∷ []) []) =
+    ap (lows_of p past) c ∙ map-append (λ (id : ℕ). (node_at p past id).low) (filter (is_live p past) (ids_below n)) (cond (is_live p past n) (n ∷ []) []) in
+    let g : map low (cond (is_live p past n) (r ∷ []) []) ≡ lows_of p past (cond (is_live p past n) (n ∷ []) []) = by_test r f.low (is_live p past n) in
+    subst (λ (m : ℕ). live_lows best (take m kept) ≡ lows_of p past (filter (is_live p past) (ids_below (suc n)))) next
+    (d ∙ (ap (λ (l : List ℤ). l ++ map low (cond (is_live p past n) (r ∷ []) [])) ih
+    ∙ (ap (λ (l : List ℤ). lows_of p past (filter (is_live p past) (ids_below n)) ++ l) g ∙ sym e)))
+  where
+    by_test : (r : Record) → r.low ≡ (node_at p past n).low → (t : Bool) → map (λ (q : Record). q.low) (cond t (r ∷ []) []) ≡ lows_of p past (cond t (n ∷ []) [])
+    by_test r same true = ap (λ (z : ℤ). z ∷ []) same
+    by_test r same false = refl
+
+-- the live nodes' low numbers are those of the records
+pub lows_same : (p : Program) (past : List Entry) (kept : List Record) (best : Option ℤ) → best ≡ value_if (best_of p past) → AreRecords p past kept → live_lows best kept ≡ lows_of p past (live_ids p past)
+lows_same p past kept best b rs =
+    let whole : take (length kept) kept ≡ kept = take_all (length kept) kept (omega arith) in
+    ap (live_lows best) (sym whole) ∙ (lows_below p past kept best b rs (length kept) (omega arith) ∙ ap (λ (n : ℕ). lows_of p past (filter (is_live p past) (ids_below n))) rs.count)
+
+freed_same : (t : Stage) → is_kept_stage t ≡ not (is_freed (stage_state t))
+freed_same Waiting = refl
+freed_same (Out seat) = refl
+freed_same Parted = refl
+freed_same Closed = refl
+freed_same Gone = refl
+
+kept_same : (p : Program) (past : List Entry) (i : ℕ) (r : Record) → IsRecordOf p past i r → is_kept_stage r.stage ≡ not (is_freed (state_of past i))
+kept_same p past i r f = freed_same r.stage ∙ ap (λ (s : State). not (is_freed s)) f.stage
+
+-- the weight of the node's piece, 0 where it is freed
+share : Program → Settings → List Entry → ℕ → ℕ
+share p s past id = cond (not (is_freed (state_of past id))) (weight_of (stored_of p s past id)) 0
+
+sum_filtered : (p : Program) (s : Settings) (past : List Entry) (n : ℕ) → sum_by (λ (id : ℕ). weight_of (stored_of p s past id)) (filter (λ (id : ℕ). not (is_freed (state_of past id))) (ids_below n)) ≡ total (share p s past) n
+unfolding share
+sum_filtered p s past zero = refl
+sum_filtered p s past (suc n) =
+    let f : ℕ → ℕ = λ id. weight_of (stored_of p s past id) in
+    let t : ℕ → Bool = λ id. not (is_freed (state_of past id)) in
+    ap (sum_by f) (filter-append t (ids_below n) (n ∷ [])) ∙ (sum_by-append f (filter t (ids_below n)) (cond (t n) (n ∷ []) [])
+    ∙ (ap (λ (m : ℕ). m + sum_by f (cond (t n) (n ∷ []) [])) (sum_filtered p s past n) ∙ ap (λ (m : ℕ). total (share p s past) n + m) (by_test (t n))))
+  where
+    by_test : (b : Bool) → sum_by (λ (id : ℕ). weight_of (stored_of p s past id)) (cond b (n ∷ []) []) ≡ cond b (weight_of (stored_of p s past n)) 0
+    by_test true = omega arith
+    by_test false = refl
+
+weights_below : (p : Program) (s : Settings) (past : List Entry) (kept : List Record) → s.span ≡ 1 → AreRecords p past kept → (n : ℕ) → n ≤ length kept → sum_by record_weight (take n kept) ≡ total (share p s past) n
+unfolding share
+weights_below p s past kept span rs zero h = refl
+weights_below p s past kept span rs (suc n) h =
+    let within : n < length kept = omega (arith, h) in
+    let x = has_record p past kept n rs within in
+    let is : get_or kept n x.0 ≡ x.0 = get_or_from_slice_get kept n x.0 x.0 x.1 in
+    let f : IsRecordOf p past n x.0 = rs.each n x.0 x.1 in
+    let ih : sum_by record_weight (take n kept) ≡ total (share p s past) n = weights_below p s past kept span rs n (omega (arith, h)) in
+    let more : sum_by record_weight (take (n + 1) kept) ≡ sum_by record_weight (take n kept) + record_weight (get_or kept n x.0) = sum_by_more record_weight kept n x.0 within in
+    let piece : x.0.piece ≡ stored_of p s past n = f.piece ∙ sym (stored_explicit p s past n span) in
+    let here : record_weight x.0 ≡ cond (not (is_freed (state_of past n))) (weight_of (stored_of p s past n)) 0 =
+    ap (λ (b : Bool). cond b (weight_of x.0.piece) 0) (kept_same p past n x.0 f) ∙ ap (λ (q : Piece Cut). cond (not (is_freed (state_of past n))) (weight_of q) 0) piece in
+    let at : record_weight (get_or kept n x.0) ≡ cond (not (is_freed (state_of past n))) (weight_of (stored_of p s past n)) 0 = ap record_weight is ∙ here in
+    let next : n + 1 ≡ suc n = omega arith in
+    subst (λ (m : ℕ). sum_by record_weight (take m kept) ≡ total (share p s past) (suc n)) next (more ∙ (ap (λ (m : ℕ). m + record_weight (get_or kept n x.0)) ih ∙ ap (λ (m : ℕ). total (share p s past) n + m) at))
+
+-- the weight of the records' pieces is that of the history
+pub weights_same : (p : Program) (s : Settings) (past : List Entry) (kept : List Record) → s.span ≡ 1 → AreRecords p past kept → sum_by record_weight kept ≡ held_of p s past
+unfolding held_of
+weights_same p s past kept span rs =
+    let whole : take (length kept) kept ≡ kept = take_all (length kept) kept (omega arith) in
+    ap (sum_by record_weight) (sym whole) ∙ (weights_below p s past kept span rs (length kept) (omega arith)
+    ∙ (ap (total (share p s past)) rs.count ∙ sym (sum_filtered p s past (length (nodes_of p past)))))
+
+slice_get_none : {X : Type 0} (xs : List X) (i : ℕ) → slice_get xs i ≡ None → length xs ≤ i
+slice_get_none [] i e = omega arith
+slice_get_none (x ∷ xs) zero e = cc
+slice_get_none (x ∷ xs) (suc i) e = let h : length xs ≤ i = slice_get_none xs i e in omega (arith, h)
+
+-- what is stored of a node is its record's piece
+pub stored_same : (p : Program) (s : Settings) (history : List Entry) (kept : List Record) (id : ℕ) → s.span ≡ 1 → AreRecords p (reverse history) kept
+    → piece_if (slice_get kept id) ≡ stored_for (record { problem = p; settings = s; history = history }) id
+stored_same p s history kept id span rs = by_option (slice_get kept id) refl
+  where
+    past : List Entry
+    past = reverse history
+
+    inner : (r : Record) → IsRecordOf p (reverse history) id r → cond (is_kept_stage r.stage) (Some r.piece) None ≡ cond (is_freed (state_of (reverse history) id)) None (Some (stored_of p s (reverse history) id))
+    inner r f =
+        let piece : r.piece ≡ stored_of p s (reverse history) id = f.piece ∙ sym (stored_explicit p s (reverse history) id span) in
+        ap (λ (b : Bool). cond b (Some r.piece) None) (kept_same p (reverse history) id r f) ∙ (turned (is_freed (state_of (reverse history) id)) r.piece
+        ∙ ap (λ (q : Piece Cut). cond (is_freed (state_of (reverse history) id)) None (Some q)) piece)
+      where
+        turned : (b : Bool) (q : Piece Cut) → cond (not b) (Some q) None ≡ cond b None (Some q)
+        turned true q = refl
+        turned false q = refl
+
+    by_option : (o : Option Record) → slice_get kept id ≡ o → piece_if o ≡ stored_for (record { problem = p; settings = s; history = history }) id
+    by_option None e =
+        let out_of : length kept ≤ id = slice_get_none kept id e in
+        let c : length kept ≡ length (nodes_of p (reverse history)) = rs.count in
+        let t : nat_lt id (length (nodes_of p (reverse history))) ≡ false = le-ltb id (length (nodes_of p (reverse history))) (omega (arith, out_of, c)) in
+        sym (cond-false _ _ _ t)
+    by_option (Some r) e =
+        let h : id < length kept = slice_get_within kept id r e in
+        let c : length kept ≡ length (nodes_of p (reverse history)) = rs.count in
+        let t : nat_lt id (length (nodes_of p (reverse history))) ≡ true = lt-ltb id (length (nodes_of p (reverse history))) (omega (arith, h, c)) in
+        inner r (rs.each id r e) ∙ sym (cond-true _ _ _ t)
+
+-- the answer that the records give is that of the history
+pub answer_same : (p : Program) (past : List Entry) (kept : List Record) (value : Option ℤ) (best : Option Found) (least : Option ℤ) → value ≡ value_if (best_of p past) → AreRecords p past kept
+    → best ≡ best_of p past → least ≡ least_if (live_lows value kept) → verdict_from best least ≡ answer_of p past
+unfolding answer_of
+answer_same p past kept value best least v rs b l =
+    let e : least ≡ least_if (lows_of p past (live_ids p past)) = l ∙ ap least_if (lows_same p past kept value v rs) in
+    ap (λ (x : Option ℤ). verdict_from best x) e ∙ (ap (λ (f : Option Found). verdict_from f (least_if (lows_of p past (live_ids p past)))) b ∙ by_list (best_of p past) (lows_of p past (live_ids p past)))
+  where
+    by_list : (f : Option Found) (lows : List ℤ) → verdict_from f (least_if lows) ≡ answer_for f lows
+    by_list f [] = refl
+    by_list f (low ∷ lows) = refl
+
+-- the lists of each piece are short
+pub pieces_short : (p : Program) (s : Settings) (past : List Entry) (kept : List Record) → IsLegalPast p s past → IsProgram p → AreRecords p past kept → All (λ (r : Record). HasShortLists r.piece) kept
+pieces_short p s past kept l w rs = λ k d h.
+    let x = has_record p past kept k rs h in
+    let is : get_or kept k d ≡ x.0 = get_or_from_slice_get kept k x.0 d x.1 in
+    let f : IsRecordOf p past k x.0 = rs.each k x.0 x.1 in
+    let c : length kept ≡ length (nodes_of p past) = rs.count in
+    subst (λ (q : Record). HasShortLists q.piece) (sym is) (subst (λ (q : Piece Cut). HasShortLists q) (sym f.piece) (short k (omega (arith, h, c))))
+  where
+    short : (k : ℕ) → k < length (nodes_of p past) → DescHasShortLists (full_of p past k)
+    short k h =
+        let whole = full_whole p past k in
+        let columns = full_columns p past k in
+        let rows = full_rows p past k in
+        let few = (cuts_fine p s past l k h).few in
+        let wide = w.few_columns in
+        let long = w.few_rows in
+        record {
+          lows = omega (arith, columns, wide);
+          highs = omega (arith, whole.highs, columns, wide);
+          cuts = omega (arith, few);
+          columns = omega (arith, whole.columns, columns, wide);
+          rows = omega (arith, rows, long);
+          cut_status = omega (arith, whole.cuts, few);
+        }

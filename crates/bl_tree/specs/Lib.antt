@@ -1,0 +1,4 @@
+pub mod Views
+pub mod Records
+pub mod Calls
+pub mod Answers

@@ -1,0 +1,59 @@
+//! The root of a tree.
+ghost use Rattle.std.specs.Prelude.{◌≡◌, ◌≤◌, ◌++◌, replicate, take, length, IfOk};
+ghost use Rattle.bl_problem.specs.Points.{lows_of, highs_of};
+ghost use Rattle.bl_journal.specs.Descriptions.{root_desc};
+ghost use Rattle.bl_desc.specs.declared.desc.Status.TheVariants.{AtLow};
+
+use bl_desc::{Desc, Status};
+use bl_mods::Items;
+use bl_problem::{Column, Cut, Problem};
+use std::alloc::{AllocError, Global};
+
+/// The columns' own lows.
+fn own_lows(alloc: Global, columns: &[Column]) -> Result<Items<i64>, AllocError>
+    ensures { IfOk result (λ lows. lows ≡ lows_of columns.now) }
+{
+    let mut lows = Items::new(alloc);
+    for column in columns {
+        lows.push(column.low)?;
+    }
+    Ok(lows)
+}
+
+/// The columns' own highs.
+fn own_highs(alloc: Global, columns: &[Column]) -> Result<Items<i64>, AllocError>
+    ensures { IfOk result (λ highs. highs ≡ highs_of columns.now) }
+{
+    let mut highs = Items::new(alloc);
+    for column in columns {
+        highs.push(column.high)?;
+    }
+    Ok(highs)
+}
+
+/// So many statuses `AtLow`.
+fn all_at_low(alloc: Global, count: usize) -> Result<Items<Status>, AllocError>
+    ensures { IfOk result (λ list. list ≡ replicate count AtLow) }
+{
+    let mut list = Items::new(alloc);
+    for _ in 0..count {
+        list.push(Status::AtLow)?;
+    }
+    Ok(list)
+}
+
+/// The root's description: the problem's own bounds, no cut, and each status `AtLow`.
+pub fn describe_root(alloc: Global, problem: &Problem) -> Result<Desc<Cut>, AllocError>
+    ensures { IfOk result (λ desc. desc ≡ root_desc problem.now) }
+{
+    let columns = problem.columns();
+    let rows = problem.rows();
+    Ok(Desc {
+        lows: own_lows(alloc, columns)?,
+        highs: own_highs(alloc, columns)?,
+        cuts: Items::new(alloc),
+        column_status: all_at_low(alloc, columns.len())?,
+        row_status: all_at_low(alloc, rows.len())?,
+        cut_status: Items::new(alloc),
+    })
+}
