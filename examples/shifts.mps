@@ -1,5 +1,5 @@
 * How many nurses begin work in each of four shifts? Each works two shifts in turn, and the four shifts need 4, 7, 5 and 3.
-* A nurse who begins at night costs 14, at any other time 10. At most 9 can begin in a shift.
+* A nurse who begins in the afternoon costs 11, at night 14, at any other time 10. At most 9 can begin in a shift.
 NAME          SHIFTS
 ROWS
  N  COST
@@ -11,7 +11,7 @@ COLUMNS
     MARKER    'MARKER'                 'INTORG'
     FROM1     COST                10   MORNING             1
     FROM1     AFTERNOON            1
-    FROM2     COST                10   AFTERNOON           1
+    FROM2     COST                11   AFTERNOON           1
     FROM2     EVENING              1
     FROM3     COST                10   EVENING             1
     FROM3     NIGHT                1

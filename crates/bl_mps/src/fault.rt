@@ -31,13 +31,13 @@ impl<T: Drop> From<AllocFailed<T>> for LineFault {
     }
 }
 
-/// Why no problem was read.
+/// Why no problem was read. Each is printed as its name.
 #[derive(Debug, Drop, Error)]
 pub enum ModelFault {
     /// The first fault of the file, and its line, counted from 1.
-    #[error("line {line}: {what:?}")]
+    #[error("At")]
     At { line: u32, what: What },
     /// There is not enough memory.
-    #[error("not enough memory")]
+    #[error("Memory")]
     Memory,
 }

@@ -1,4 +1,3 @@
-pub mod Lines
 pub mod Putting
 pub mod Turns
 pub mod Answered

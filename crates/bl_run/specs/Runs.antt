@@ -1,5 +1,5 @@
 -- What a run did: each status has its cause.
-use Rattle.std.specs.Prelude.{◌≡◌, ◌⊎◌, ◌+◌, ℕ, Bool, List, Some, Ok, Err, reverse}
+use Rattle.std.specs.Prelude.{◌≡◌, ◌⊎◌, ◌+◌, ℕ, Bool, List, Some, Ok, Err, true, reverse}
 use Rattle.std.specs.declared.option.Option.{Option}
 use Rattle.std.specs.declared.alloc.Global.{Global}
 use Rattle.std.specs.declared.string.String.{String}
@@ -16,7 +16,7 @@ use Rattle.bl_run.specs.declared.run.Stop.{Stop}
 use Rattle.bl_run.specs.declared.run.Stop.TheVariants.{Words, TooLong, Model, Read, Memory}
 use Rattle.bl_run.specs.Words.{MeansNodes}
 use Rattle.bl_run.specs.Searches.{settings_of, IsEndedHistory}
-use Rattle.bl_run.specs.Texts.{verdict_text, model_line, long_line}
+use Rattle.bl_report.specs.Texts.{verdict_text, model_line, long_line}
 
 abbrev pub most_bytes : ℕ
 most_bytes = 8388608
@@ -32,7 +32,7 @@ pub record IsAnswered (words : List (String Global)) (before now : Option (List 
   pub reads : read_of bytes ≡ Ok problem
   pub ended : IsEndedHistory problem (settings_of nodes) limited history
   pub is_true : IsTrueFor problem (answer_of problem (reverse history))
-  pub is : text ≡ verdict_text problem (answer_of problem (reverse history))
+  pub is : text ≡ verdict_text problem true (answer_of problem (reverse history))
 
 -- the source was read to its end, and its bytes mean this problem
 pub record IsRead (before now : Option (List ℕ)) (problem : Program) : Type 0 where
@@ -44,7 +44,7 @@ pub record IsRead (before now : Option (List ℕ)) (problem : Program) : Type 0 
 pub record IsSolved (problem : Program) (nodes : ℕ) (answered : Answered) : Type 0 where
   pub ended : IsEndedHistory problem (settings_of nodes) answered.limited answered.journal.entries
   pub is_true : IsTrueFor problem (answer_of problem (reverse answered.journal.entries))
-  pub is : answered.text.items ≡ verdict_text problem (answer_of problem (reverse answered.journal.entries))
+  pub is : answered.text.items ≡ verdict_text problem true (answer_of problem (reverse answered.journal.entries))
 
 -- the source was read to its end, its bytes have a fault, and the line tells the first one
 pub record IsRefused (before now : Option (List ℕ)) (line : List ℕ) : Type 0 where

@@ -2,7 +2,6 @@
 #![tactic(auto)]
 
 mod node;
-mod report;
 mod run;
 mod search;
 #[cfg(test)]

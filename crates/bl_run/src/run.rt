@@ -4,10 +4,9 @@ ghost use Rattle.std.specs.Io.KnownBytes.{Appends};
 ghost use Rattle.bl_io.specs.Causes.{Rose, HasCause};
 ghost use Rattle.bl_io.specs.Streams.{AppendsPrefix};
 ghost use Rattle.bl_run.specs.Words.{MeansNothing};
-ghost use Rattle.bl_run.specs.Texts.{fault_line, model_line};
+ghost use Rattle.bl_report.specs.Texts.{fault_line, model_line};
 ghost use Rattle.bl_run.specs.Runs.{IsAnswered, IsRead, IsSolved, HasReason, TellsModel, WritesAnswer, WritesPart, WritesLine};
 
-use crate::report::{answer_text, model_line};
 use crate::search::{EndedSearch, search_tree};
 use crate::words::read_words;
 use bl_io::{Failed, ReadEnd, Sink, Source, read_all, write_all};
@@ -15,6 +14,7 @@ use bl_journal::Journal;
 use bl_journal::laws::answers_are_true;
 use bl_mps::{ModelFault, What, read};
 use bl_problem::Problem;
+use bl_report::{answer_text, model_line};
 use std::alloc::{AllocError, Global};
 use std::sync::Arc;
 
@@ -132,7 +132,7 @@ fn solve(alloc: Global, problem: Problem, nodes: u32) -> Result<Answered, AllocE
     answers_are_true();
     let problem = Arc::new(alloc, problem)?;
     let EndedSearch { tree, limited } = search_tree(alloc, &problem, nodes)?;
-    let text = answer_text(alloc, &problem, &tree.answer())?;
+    let text = answer_text(alloc, &problem, &tree.answer(), true)?;
     Ok(Answered {
         text,
         journal: tree.into_journal(),

@@ -1,5 +1,5 @@
 -- The texts that a run writes.
-use Rattle.std.specs.Prelude.{ℕ, List, [], ◌∷◌, ◌++◌, ℤ, pos, codes, ◌==◌, if◌then◌else◌, Option, Some, None}
+use Rattle.std.specs.Prelude.{ℕ, Bool, true, false, List, [], ◌∷◌, ◌++◌, ℤ, pos, codes, ◌==◌, if◌then◌else◌, Option, Some, None}
 use Rattle.std.specs.Fmt.{signed_decimal}
 use Rattle.bl_num.specs.Texts.{text_of}
 use Rattle.bl_problem.specs.declared.problem.Column.{Column}
@@ -20,19 +20,24 @@ column_lines [] point = []
 column_lines (c ∷ columns) [] = []
 column_lines (c ∷ columns) (v ∷ point) = column_line c v ++ column_lines columns point
 
--- `objective V` and the columns' lines
-abbrev pub found_lines : Program → Found → List ℕ
-found_lines p f = codes "objective " ++ (text_of f.value p.scale ++ codes "\n") ++ column_lines p.columns f.point
+-- the columns' lines, where they are wanted
+abbrev pub shown_columns : Bool → List Column → List ℤ → List ℕ
+shown_columns true columns point = column_lines columns point
+shown_columns false columns point = []
 
-abbrev pub best_lines : Program → Option Found → List ℕ
-best_lines p None = codes "objective none\n"
-best_lines p (Some f) = found_lines p f
+-- `objective V`, in units of 10^-scale, and the columns' lines
+abbrev pub found_lines : Program → Bool → Found → List ℕ
+found_lines p with_columns f = codes "objective " ++ (text_of f.value p.scale ++ codes "\n") ++ shown_columns with_columns p.columns f.point
+
+abbrev pub best_lines : Program → Bool → Option Found → List ℕ
+best_lines p with_columns None = codes "objective none\n"
+best_lines p with_columns (Some f) = found_lines p with_columns f
 
 -- the lines of an answer
-abbrev pub verdict_text : Program → Verdict → List ℕ
-verdict_text p (optimal f) = codes "status optimal\n" ++ found_lines p f ++ codes "end\n"
-verdict_text p infeasible = codes "status infeasible\n" ++ codes "end\n"
-verdict_text p (bounded bound f) = codes "status limit\nbound " ++ (text_of bound p.scale ++ codes "\n") ++ best_lines p f ++ codes "end\n"
+abbrev pub verdict_text : Program → Bool → Verdict → List ℕ
+verdict_text p with_columns (optimal f) = codes "status optimal\n" ++ found_lines p with_columns f ++ codes "end\n"
+verdict_text p with_columns infeasible = codes "status infeasible\n" ++ codes "end\n"
+verdict_text p with_columns (bounded bound f) = codes "status limit\nbound " ++ (text_of bound p.scale ++ codes "\n") ++ best_lines p with_columns f ++ codes "end\n"
 
 -- the name of a broken rule
 abbrev pub what_name : What → List ℕ

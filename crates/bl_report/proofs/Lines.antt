@@ -3,7 +3,7 @@ use Rattle.std.proofs.Common.{◌≡◌, ℕ, ◌+◌, ◌<◌, ◌≤◌, List,
 use Rattle.std.proofs.lemmas.Bool.{cases_lt}
 use Rattle.std.proofs.lemmas.List.{drop_more, drop_all}
 use Rattle.bl_problem.specs.declared.problem.Column.{Column}
-use Rattle.bl_run.specs.Texts.{column_line, column_lines}
+use Rattle.bl_report.specs.Texts.{column_line, column_lines}
 
 pub lines_step : (cs : List Column) (xs : List ℤ) (j : ℕ) (c : Column) → j < length cs → j < length xs → c ≡ get_or cs j c
     → column_lines (drop j cs) (drop j xs) ≡ column_line c (get_or xs j (pos 0)) ++ column_lines (drop (j + 1) cs) (drop (j + 1) xs)

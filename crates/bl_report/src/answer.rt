@@ -3,33 +3,33 @@ ghost use Rattle.std.specs.Prelude.{◌≡◌, ◌++◌, ◌≤◌, length, code
 ghost use Rattle.std.specs.Fmt.{signed_decimal};
 ghost use Rattle.bl_num.specs.Texts.{text_of};
 ghost use Rattle.bl_tree.specs.Answers.{verdict_of, found_if};
-ghost use Rattle.bl_run.specs.Texts.{column_lines, column_line, found_lines, best_lines, verdict_text, model_line, what_name};
+ghost use Rattle.bl_report.specs.Texts.{column_lines, column_line, shown_columns, found_lines, best_lines, verdict_text};
 
-use bl_mps::What;
 use bl_num::decimal_text;
 use bl_problem::{Column, Problem};
 use bl_tree::{Answer, Best};
 use std::alloc::{AllocError, Global};
 
-/// The lines of an answer. `AllocError` where there is no memory.
+/// The lines of an answer, with a line for each column of its point where they are wanted. `AllocError` where there is no memory.
 pub fn answer_text(
     alloc: Global,
     problem: &Problem,
     answer: &Answer<'_>,
+    with_columns: bool,
 ) -> Result<Vec<u8>, AllocError>
-    ensures { IfOk result (λ text. text.items ≡ verdict_text problem.now (verdict_of answer.now)) }
+    ensures { IfOk result (λ text. text.items ≡ verdict_text problem.now with_columns (verdict_of answer.now)) }
 {
     let mut text = Vec::new(alloc);
     match answer {
         Answer::Optimal { value, point } => {
             text.extend_from_slice(b"status optimal\n")?;
-            push_found(alloc, &mut text, problem, *value, point)?;
+            push_found(alloc, &mut text, problem, *value, point, with_columns)?;
         }
         Answer::Infeasible => text.extend_from_slice(b"status infeasible\n")?,
         Answer::Bounded { bound, best } => {
             text.extend_from_slice(b"status limit\nbound ")?;
             push_value(alloc, &mut text, problem, *bound)?;
-            push_best(alloc, &mut text, problem, best)?;
+            push_best(alloc, &mut text, problem, best, with_columns)?;
         }
     }
     text.extend_from_slice(b"end\n")?;
@@ -41,12 +41,13 @@ fn push_best(
     text: &mut Vec<u8>,
     problem: &Problem,
     best: &Option<Best<'_>>,
+    with_columns: bool,
 ) -> Result<(), AllocError>
-    ensures { OnOk result (text.new.items ≡ text.old.items ++ best_lines problem.now (found_if best.now)) }
+    ensures { OnOk result (text.new.items ≡ text.old.items ++ best_lines problem.now with_columns (found_if best.now)) }
 {
     match best {
         None => text.extend_from_slice(b"objective none\n"),
-        Some(best) => push_found(alloc, text, problem, best.value, best.point),
+        Some(best) => push_found(alloc, text, problem, best.value, best.point, with_columns),
     }
 }
 
@@ -56,12 +57,30 @@ fn push_found(
     problem: &Problem,
     value: i128,
     point: &[i64],
+    with_columns: bool,
 ) -> Result<(), AllocError>
-    ensures { OnOk result (text.new.items ≡ text.old.items ++ found_lines problem.now (record { value = value; point = point.now })) }
+    ensures { OnOk result (text.new.items ≡ text.old.items ++ found_lines problem.now with_columns (record { value = value; point = point.now })) }
 {
     text.extend_from_slice(b"objective ")?;
     push_value(alloc, text, problem, value)?;
-    push_columns(alloc, text, problem.columns(), point)
+    push_shown(alloc, text, problem.columns(), point, with_columns)
+}
+
+// The columns' lines, where they are wanted.
+fn push_shown(
+    alloc: Global,
+    text: &mut Vec<u8>,
+    columns: &[Column],
+    point: &[i64],
+    with_columns: bool,
+) -> Result<(), AllocError>
+    ensures { OnOk result (text.new.items ≡ text.old.items ++ shown_columns with_columns columns.now point.now) }
+{
+    if with_columns {
+        push_columns(alloc, text, columns, point)
+    } else {
+        Ok(())
+    }
 }
 
 // A value in units of 10^-scale, and a line feed.
@@ -108,44 +127,9 @@ fn push_column(
     text.extend_from_slice(b"\n")
 }
 
-fn push_number(alloc: Global, text: &mut Vec<u8>, number: i64) -> Result<(), AllocError>
+pub fn push_number(alloc: Global, text: &mut Vec<u8>, number: i64) -> Result<(), AllocError>
     ensures { OnOk result (text.new.items ≡ text.old.items ++ signed_decimal number) }
 {
     let digits = format!(in alloc; "{number}")?;
     text.extend_from_slice(digits.as_bytes())
-}
-
-/// The line that tells a file's first fault: `fault model line L WHAT`. `AllocError` where there is no memory.
-pub fn model_line(alloc: Global, line: u32, what: What) -> Result<Vec<u8>, AllocError>
-    ensures { IfOk result (λ text. text.items ≡ model_line (record { line = line; what = what })) }
-{
-    let mut text = Vec::new(alloc);
-    text.extend_from_slice(b"fault model line ")?;
-    push_number(alloc, &mut text, i64::from(line))?;
-    text.extend_from_slice(b" ")?;
-    text.extend_from_slice(name_of(what))?;
-    text.extend_from_slice(b"\n")?;
-    Ok(text)
-}
-
-// The name of a broken rule.
-fn name_of(what: What) -> &'static [u8]
-    ensures { result.now ≡ what_name what }
-{
-    match what {
-        What::Section => b"Section",
-        What::Words => b"Words",
-        What::Number => b"Number",
-        What::TooWide => b"TooWide",
-        What::UnknownRow => b"UnknownRow",
-        What::UnknownColumn => b"UnknownColumn",
-        What::Twice => b"Twice",
-        What::NotWhole => b"NotWhole",
-        What::Unbounded => b"Unbounded",
-        What::FractionBound => b"FractionBound",
-        What::TooMany => b"TooMany",
-        What::NoObjective => b"NoObjective",
-        What::Marker => b"Marker",
-        What::NoEnd => b"NoEnd",
-    }
 }

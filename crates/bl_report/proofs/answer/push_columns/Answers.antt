@@ -2,9 +2,9 @@ use Rattle.std.proofs.Common.{◌+◌, ◌++◌, List, ℕ, ℤ, pos, get_or, dr
 use Rattle.std.proofs.lemmas.Int.{to_z-of_z}
 use Rattle.std.proofs.lemmas.List.{append-nil}
 use Rattle.std.specs.Int.{w64}
-use Rattle.bl_run.specs.Texts.{column_line, column_lines}
-use Rattle.bl_run.proofs.Lines.{lines_step, lines_end}
-use Rattle.bl_run.proofs.report.push_columns.Goals as goal
+use Rattle.bl_report.specs.Texts.{column_line, column_lines}
+use Rattle.bl_report.proofs.Lines.{lines_step, lines_end}
+use Rattle.bl_report.proofs.answer.push_columns.Goals as goal
 
 pub loop-j-preserved : goal.loop-j-preserved
 loop-j-preserved c =
