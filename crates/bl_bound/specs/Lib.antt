@@ -1,0 +1,4 @@
+pub mod Lines
+pub mod Descriptions
+pub mod Bounds
+pub mod Steps
