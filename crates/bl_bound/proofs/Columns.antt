@@ -13,14 +13,14 @@ use Rattle.bl_bound.proofs.Terms.{absent, tail_terms}
 use lib.Signed.{mag}
 
 -- ---- what is settled
-i128_of-settled : (z : ℤ) → IsSettled (i128_of z)
+pub i128_of-settled : (z : ℤ) → IsSettled (i128_of z)
 i128_of-settled z = by (nat_lt (mag z) (2 ^ 127)) refl
   where
     by : (t : Bool) → nat_lt (mag z) (2 ^ 127) ≡ t → IsSettled (cond t (Some z) None)
     by true e = record { same = let s : z +ℤ pos 0 ≡ z = omega (arith, ints) in ap i128_of s ∙ ap (λ (b : Bool). cond b (Some z) None) e }
     by false e = record { same = refl }
 
-checked_add-settled : (a b : Option ℤ) → IsSettled (checked_add a b)
+pub checked_add-settled : (a b : Option ℤ) → IsSettled (checked_add a b)
 checked_add-settled None b = record { same = refl }
 checked_add-settled (Some a) None = record { same = refl }
 checked_add-settled (Some a) (Some b) = i128_of-settled (a +ℤ b)

@@ -1,6 +1,10 @@
 pub mod Terms
 pub mod LineLemmas
 pub mod Columns
+pub mod UnitSums
+pub mod Greatest
+pub mod UnitBounds
+pub mod UnitLaw
 pub mod Duality
 pub mod Meets
 pub mod Exact

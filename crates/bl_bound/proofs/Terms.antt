@@ -4,7 +4,6 @@ use Rattle.std.proofs.lemmas.Int.{ints}
 use Rattle.std.proofs.lemmas.Bool.Decides.{nat_tests}
 use Rattle.std.proofs.Math.IntN.{zero-*ℤ}
 use Rattle.bl_num.specs.Exact.{sum_below, at}
-use Rattle.bl_num.proofs.Ring.{+ℤ-*ℤ}
 use Rattle.bl_num.proofs.SumLemmas.{sum_below-same, sum_below-add, sum_below-only, sum_below-zero}
 use Rattle.bl_problem.specs.Sums.{total, sum_of_terms}
 use Rattle.bl_problem.specs.Rows.{AreTerms, coefficient_of}
@@ -51,24 +50,26 @@ alone_off : (t : Term) (j : ℕ) → ¬ (j ≡ t.column) → alone t j ≡ pos 0
 unfolding alone
 alone_off t j n = grind (arith, nat_tests)
 
-split_first : (t : Term) (ts : List Term) (j : ℕ) → coefficient_of ts t.column ≡ pos 0 → coefficient_of (t ∷ ts) j ≡ alone t j +ℤ coefficient_of ts j
+split_first : (t : Term) (ts : List Term) (f : ℕ → ℤ → ℤ) (j : ℕ) → coefficient_of ts t.column ≡ pos 0 → f j (pos 0) ≡ pos 0 → f j (coefficient_of (t ∷ ts) j) ≡ f j (alone t j) +ℤ f j (coefficient_of ts j)
 unfolding alone
-split_first t ts j z = by (eqb t.column j) refl
+split_first t ts f j a z = by (eqb t.column j) refl
   where
-    by : (b : Bool) → eqb t.column j ≡ b → cond b t.coefficient (coefficient_of ts j) ≡ cond b t.coefficient (pos 0) +ℤ coefficient_of ts j
-    by true e = let k : t.column ≡ j = grind (arith, nat_tests) in let y = rw k at z in omega (arith, ints, y)
-    by false e = omega (arith, ints)
+    by : (b : Bool) → eqb t.column j ≡ b → f j (cond b t.coefficient (coefficient_of ts j)) ≡ f j (cond b t.coefficient (pos 0)) +ℤ f j (coefficient_of ts j)
+    by true e = let k : t.column ≡ j = grind (arith, nat_tests) in let y = rw k at a in let w = ap (f j) y ∙ z in omega (arith, ints, w)
+    by false e = omega (arith, ints, z)
+
+-- a function of the coefficients that is 0 at 0, over all columns, is that function over the terms
+pub spread : (n : ℕ) (ts : List Term) (f : ℕ → ℤ → ℤ) → AreTerms n ts → ((j : ℕ) → f j (pos 0) ≡ pos 0) → sum_below n (λ j. f j (coefficient_of ts j)) ≡ total (λ t. f t.column t.coefficient) ts
+spread n [] f h z = sum_below-zero n (λ j. f j (pos 0)) (λ k l. z k)
+spread n (t ∷ ts) f h z =
+    let lt = (h.each 0 t (omega arith)).column in
+    let a = absent ts t.column (λ k d l. h.rising 0 (suc k) d (omega arith) (omega arith)) in
+    let i = spread n ts f (tail_terms n t ts h) z in
+    let e = sum_below-same n (λ j. f j (coefficient_of (t ∷ ts) j)) (λ j. f j (alone t j) +ℤ f j (coefficient_of ts j)) (λ k l. split_first t ts f k a (z k)) in
+    let b = sum_below-add n (λ j. f j (alone t j)) (λ j. f j (coefficient_of ts j)) in
+    let o = sum_below-only n t.column (λ j. f j (alone t j)) lt (λ k l q. ap (f k) (alone_off t k q) ∙ z k) in
+    let u = ap (f t.column) (alone_at t) in
+    e ∙ b ∙ ap (λ (v : ℤ). v +ℤ sum_below n (λ j. f j (coefficient_of ts j))) (o ∙ u) ∙ ap (λ (v : ℤ). f t.column t.coefficient +ℤ v) i ∙ sym (total-cons (λ (s : Term). f s.column s.coefficient) t ts)
 
 pub dense : (n : ℕ) (ts : List Term) (x : List ℤ) → AreTerms n ts → sum_below n (λ j. coefficient_of ts j *ℤ at x j) ≡ sum_of_terms ts x
-dense n [] x h = sum_below-zero n (λ j. pos 0 *ℤ at x j) (λ k l. zero-*ℤ (at x k))
-dense n (t ∷ ts) x h =
-    let f : Term → ℤ = λ s. s.coefficient *ℤ at x s.column in
-    let lt = (h.each 0 t (omega arith)).column in
-    let z = absent ts t.column (λ k d l. h.rising 0 (suc k) d (omega arith) (omega arith)) in
-    let i = dense n ts x (tail_terms n t ts h) in
-    let e = sum_below-same n (λ j. coefficient_of (t ∷ ts) j *ℤ at x j) (λ j. alone t j *ℤ at x j +ℤ coefficient_of ts j *ℤ at x j)
-    (λ k l. ap (λ (v : ℤ). v *ℤ at x k) (split_first t ts k z) ∙ +ℤ-*ℤ (alone t k) (coefficient_of ts k) (at x k)) in
-    let a = sum_below-add n (λ j. alone t j *ℤ at x j) (λ j. coefficient_of ts j *ℤ at x j) in
-    let o = sum_below-only n t.column (λ j. alone t j *ℤ at x j) lt (λ k l q. ap (λ (v : ℤ). v *ℤ at x k) (alone_off t k q) ∙ zero-*ℤ (at x k)) in
-    let u = ap (λ (v : ℤ). v *ℤ at x t.column) (alone_at t) in
-    e ∙ a ∙ ap (λ (v : ℤ). v +ℤ sum_below n (λ j. coefficient_of ts j *ℤ at x j)) (o ∙ u) ∙ ap (λ (v : ℤ). f t +ℤ v) i ∙ sym (total-cons f t ts)
+dense n ts x h = spread n ts (λ j a. a *ℤ at x j) h (λ j. zero-*ℤ (at x j))

@@ -1,4 +1,5 @@
 pub mod Lines
 pub mod Descriptions
 pub mod Bounds
+pub mod Units
 pub mod Steps

@@ -1,7 +1,7 @@
 //! Bounds of a problem with two columns X and Y from 0 to 10, costs 2 and 3, and the row 2X + 3Y >= 7.
 ghost use Rattle.std.specs.Prelude.{◌≡◌, [], ◌∷◌, Some, None, pos, length, IfOk};
 
-use crate::{bound, empty};
+use crate::{bound, empty, greatest_unit_bound};
 use bl_desc::Desc;
 use bl_mods::Items;
 use bl_problem::{Column, Cut, Name, Problem, Row, Term};
@@ -90,5 +90,6 @@ fn bounds_of_the_worked_problem(rt: HostRuntime) -> Result<(), Fail> {
     assert!(rt; !empty(&problem, &root, [1].as_slice()));
     let tight = description(rt.alloc(), 1)?;
     assert!(rt; empty(&problem, &tight, [1].as_slice()));
+    assert_eq!(rt; greatest_unit_bound(&problem, &root), 7);
     Ok(())
 }

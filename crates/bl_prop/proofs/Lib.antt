@@ -1,0 +1,4 @@
+pub mod Ranges
+pub mod Nearness
+pub mod Law
+pub mod Whole

@@ -1,0 +1,19 @@
+-- The limits of lines.
+use Rattle.std.specs.Prelude.{ℕ, ◌^◌, ℤ, List, Option, Some, None, All}
+use Rattle.bl_problem.specs.Sums.{IsWithin}
+use Rattle.bl_problem.specs.Rows.{AreTerms}
+use Rattle.bl_bound.specs.Lines.{Line}
+
+-- an end, where it is there, is within the limit
+abbrev pub IsEnd : Option ℤ → Type 0
+IsEnd None = Unit {0}
+IsEnd (Some end) = IsWithin (10 ^ 30) end
+
+-- a line over n columns, within the limits
+pub record IsLine (n : ℕ) (line : Line) : Type 0 where
+  pub terms : AreTerms n line.terms
+  pub low : IsEnd line.low
+  pub high : IsEnd line.high
+
+abbrev pub AreLines : ℕ → List Line → Type 0
+AreLines n lines = All (IsLine n) lines

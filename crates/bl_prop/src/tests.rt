@@ -1,0 +1,108 @@
+//! Passes over a problem with two columns X and Y from 0 to 10, costs 2 and 3, and the row 2X + 3Y >= 7.
+ghost use Rattle.std.specs.Prelude.{◌≡◌, ◌^◌, All, [], ◌∷◌, Some, None, pos, length, IfOk};
+ghost use Rattle.bl_problem.specs.Sums.{IsWithin};
+
+use crate::{Decision, Side, Tightened, tighten};
+use bl_desc::Desc;
+use bl_mods::Items;
+use bl_problem::{Column, Cut, Name, Problem, Row, Term};
+use std::alloc::{AllocError, Global};
+use std::test::Fail;
+
+fn columns(alloc: Global) -> Result<Vec<Column>, AllocError>
+    ensures { IfOk result (λ columns. columns.items ≡
+        record { name = 88 ∷ []; low = pos 0; high = pos 10; cost = pos 2 } ∷ record { name = 89 ∷ []; low = pos 0; high = pos 10; cost = pos 3 } ∷ []) }
+{
+    let x = Name::new(vec![in alloc; b'X']?);
+    let y = Name::new(vec![in alloc; b'Y']?);
+    let columns = vec![in alloc;
+        Column {
+            name: x,
+            low: 0,
+            high: 10,
+            cost: 2
+        },
+        Column {
+            name: y,
+            low: 0,
+            high: 10,
+            cost: 3
+        },
+    ]?;
+    Ok(columns)
+}
+
+fn rows(alloc: Global) -> Result<Vec<Row>, AllocError>
+    ensures { IfOk result (λ rows. rows.items ≡
+        record { name = 82 ∷ []; terms = record { column = 0; coefficient = pos 2 } ∷ record { column = 1; coefficient = pos 3 } ∷ []; low = Some (pos 7); high = None } ∷ []) }
+{
+    let name = Name::new(vec![in alloc; b'R']?);
+    let x = Term {
+        column: 0,
+        coefficient: 2,
+    };
+    let y = Term {
+        column: 1,
+        coefficient: 3,
+    };
+    let terms = Items::from_vec(vec![in alloc; x, y]?);
+    Ok(vec![in alloc;
+        Row {
+            name,
+            terms,
+            low: Some(7),
+            high: None
+        },
+    ]?)
+}
+
+fn problem(alloc: Global) -> Result<Problem, AllocError>
+    ensures columns { IfOk result (λ p. length p.columns ≡ 2) }
+    ensures rows { IfOk result (λ p. length p.rows ≡ 1) }
+{
+    let columns = columns(alloc)?;
+    let rows = rows(alloc)?;
+    let objective = Name::new(vec![in alloc; b'C']?);
+    Ok(Problem::new(columns, rows, objective, 0, 0))
+}
+
+fn description(alloc: Global, highs: [i64; 2]) -> Result<Desc<Cut>, AllocError>
+    ensures lows { IfOk result (λ d. d.lows ≡ pos 0 ∷ pos 0 ∷ []) }
+    ensures highs { IfOk result (λ d. d.highs ≡ highs) }
+    ensures cuts { IfOk result (λ d. d.cuts ≡ []) }
+{
+    Ok(Desc {
+        lows: Items::from_vec(vec![in alloc; 0, 0]?),
+        highs: Items::from_vec(Vec::from_array(alloc, highs)?),
+        cuts: Items::new(alloc),
+        column_status: Items::new(alloc),
+        row_status: Items::new(alloc),
+        cut_status: Items::new(alloc),
+    })
+}
+
+// What a pass shows of the problem where the highs are these: no point, and the first decision.
+fn shown(alloc: Global, highs: [i64; 2]) -> Result<(bool, Option<Decision>), AllocError>
+    requires { All (IsWithin (10 ^ 9)) highs }
+{
+    let problem = problem(alloc)?;
+    let desc = description(alloc, highs)?;
+    match tighten(alloc, &problem, &desc)? {
+        Tightened::Empty { row } => Ok((row == 0, None)),
+        Tightened::Changed(decisions) => Ok((false, decisions.as_slice().first().copied())),
+        Tightened::Same => Ok((false, None)),
+    }
+}
+
+#[test]
+fn tightens_the_worked_problem(rt: HostRuntime) -> Result<(), Fail> {
+    assert_eq!(rt; shown(rt.alloc(), [10, 10])?, (false, None));
+    assert_eq!(rt; shown(rt.alloc(), [1, 1])?, (true, None));
+    let decision = Decision {
+        column: 1,
+        side: Side::AtLeast,
+        value: 1,
+    };
+    assert_eq!(rt; shown(rt.alloc(), [2, 10])?, (false, Some(decision)));
+    Ok(())
+}
