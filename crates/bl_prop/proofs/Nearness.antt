@@ -1,8 +1,8 @@
 -- The bounds keep their number and their limits through the steps of a pass.
 use Rattle.std.proofs.Common.{◌≡◌, ℕ, zero, suc, ◌+◌, ◌<◌, ◌≤◌, ◌^◌, ℤ, pos, negsuc, ◌+ℤ◌, ◌-ℤ◌, ◌≤ℤ◌, arith, List, [], ◌∷◌, ◌++◌, length, All, Option, Some, None, Bool, true, false, cond, refl, sym, ◌∙◌, slice_set, int_lt, take, add-one}
 use Rattle.std.proofs.lemmas.Int.{ints}
-use Rattle.std.proofs.lemmas.List.{length-set}
-use Rattle.std.proofs.lemmas.List.Elements.{All-set, All-take}
+use Rattle.std.proofs.lemmas.List.{length-set, length-append}
+use Rattle.std.proofs.lemmas.List.Elements.{All-set, All-take, All-push}
 use Rattle.bl_problem.specs.Rows.{AreTerms}
 use Rattle.bl_num.specs.Exact.{at, floor_of}
 use Rattle.bl_num.proofs.Quotients.{floor_range}
@@ -12,7 +12,9 @@ use Rattle.bl_problem.specs.declared.decision.Side.TheVariants.{AtLeast, AtMost}
 use Rattle.bl_bound.specs.Lines.{Line, line_at}
 use Rattle.bl_prop.specs.declared.pass.Pass.{Pass}
 use Rattle.bl_prop.specs.Passes.{turned, least_of, lowered_high, raised_low, cut_by, is_full, cut_term, cut_terms, is_over, by_slack, end_step, line_step, walked, IsNear}
-use Rattle.bl_prop.specs.Limits.{AreLines}
+use Rattle.bl_prop.specs.Limits.{AreLines, IsDecision, AreDecisions}
+use Rattle.bl_problem.specs.declared.decision.Decision.{Decision}
+use Rattle.std.proofs.lemmas.Bool.Decides.{nat_tests}
 
 pub record StaysNear (a b : Pass) : Type 0 where
   pub near : IsNear b
@@ -24,8 +26,15 @@ stays pass h = record { near = h; width = refl }
 then : (a b c : Pass) → StaysNear a b → StaysNear b c → StaysNear a c
 then a b c h k = record { near = k.near; width = k.width ∙ h.width }
 
-lowered_high-near : (j : ℕ) (v : ℤ) (pass : Pass) → IsNear pass → j < length pass.lows → pos 0 ≤ℤ (v +ℤ pos (10 ^ 9)) → StaysNear pass (lowered_high j v pass)
-lowered_high-near j v pass h l p = by (int_lt v (at pass.highs j)) refl
+-- one more decision
+decided-more : (n : ℕ) (ds : List Decision) (d : Decision) → AreDecisions n ds → length ds < 256 → d.column < n → IsWithin (10 ^ 9) d.value → AreDecisions n (ds ++ d ∷ [])
+decided-more n ds d h f c v = record {
+  few = let e = length-append ds (d ∷ []) in omega (arith, e, f);
+  each = All-push (IsDecision n) ds d h.each (record { column = c; value = v });
+}
+
+lowered_high-near : (j : ℕ) (v : ℤ) (pass : Pass) → IsNear pass → length pass.decisions < 256 → j < length pass.lows → pos 0 ≤ℤ (v +ℤ pos (10 ^ 9)) → StaysNear pass (lowered_high j v pass)
+lowered_high-near j v pass h f l p = by (int_lt v (at pass.highs j)) refl
   where
     by : (t : Bool) → int_lt v (at pass.highs j) ≡ t →
         StaysNear pass (cond t (record { lows = pass.lows; highs = slice_set pass.highs j v; decisions = pass.decisions ++ record { column = j; side = AtMost; value = v } ∷ []; stuck = pass.stuck }) pass)
@@ -33,13 +42,13 @@ lowered_high-near j v pass h l p = by (int_lt v (at pass.highs j)) refl
         let w = h.near_highs j (pos 0) (omega (arith, h.highs)) in
         let near : IsWithin (10 ^ 9) v = omega (arith, ints, e, w, p) in
         record {
-          near = record { highs = length-set pass.highs j v ∙ h.highs; near_lows = h.near_lows; near_highs = All-set (IsWithin (10 ^ 9)) pass.highs j v near h.near_highs };
+          near = record { highs = length-set pass.highs j v ∙ h.highs; near_lows = h.near_lows; near_highs = All-set (IsWithin (10 ^ 9)) pass.highs j v near h.near_highs; decisions = decided-more (length pass.lows) pass.decisions _ h.decisions f l near };
           width = refl;
         }
     by false e = stays pass h
 
-raised_low-near : (j : ℕ) (v : ℤ) (pass : Pass) → IsNear pass → j < length pass.lows → v ≤ℤ pos (10 ^ 9) → StaysNear pass (raised_low j v pass)
-raised_low-near j v pass h l p = by (int_lt (at pass.lows j) v) refl
+raised_low-near : (j : ℕ) (v : ℤ) (pass : Pass) → IsNear pass → length pass.decisions < 256 → j < length pass.lows → v ≤ℤ pos (10 ^ 9) → StaysNear pass (raised_low j v pass)
+raised_low-near j v pass h f l p = by (int_lt (at pass.lows j) v) refl
   where
     by : (t : Bool) → int_lt (at pass.lows j) v ≡ t →
         StaysNear pass (cond t (record { lows = slice_set pass.lows j v; highs = pass.highs; decisions = pass.decisions ++ record { column = j; side = AtLeast; value = v } ∷ []; stuck = pass.stuck }) pass)
@@ -47,28 +56,28 @@ raised_low-near j v pass h l p = by (int_lt (at pass.lows j) v) refl
         let w = h.near_lows j (pos 0) l in
         let near : IsWithin (10 ^ 9) v = omega (arith, ints, e, w, p) in
         record {
-          near = record { highs = h.highs ∙ sym (length-set pass.lows j v); near_lows = All-set (IsWithin (10 ^ 9)) pass.lows j v near h.near_lows; near_highs = h.near_highs };
+          near = record { highs = h.highs ∙ sym (length-set pass.lows j v); near_lows = All-set (IsWithin (10 ^ 9)) pass.lows j v near h.near_lows; near_highs = h.near_highs; decisions = rw (length-set pass.lows j v) (decided-more (length pass.lows) pass.decisions _ h.decisions f l near) };
           width = length-set pass.lows j v;
         }
     by false e = stays pass h
 
-cut_by-near : (s : ℤ) (j : ℕ) (a : ℤ) (pass : Pass) → IsNear pass → j < length pass.lows → pos 0 ≤ℤ s → StaysNear pass (cut_by s j a pass)
-cut_by-near s j (pos zero) pass h l p = stays pass h
-cut_by-near s j (pos (suc a)) pass h l p =
+cut_by-near : (s : ℤ) (j : ℕ) (a : ℤ) (pass : Pass) → IsNear pass → length pass.decisions < 256 → j < length pass.lows → pos 0 ≤ℤ s → StaysNear pass (cut_by s j a pass)
+cut_by-near s j (pos zero) pass h f l p = stays pass h
+cut_by-near s j (pos (suc a)) pass h f l p =
     let r = floor_range s (pos (suc a)) (omega (arith, ints)) p in
     let w = h.near_lows j (pos 0) l in
-    lowered_high-near j (at pass.lows j +ℤ floor_of s (pos (suc a))) pass h l (omega (arith, ints, r.0, w))
-cut_by-near s j (negsuc a) pass h l p =
+    lowered_high-near j (at pass.lows j +ℤ floor_of s (pos (suc a))) pass h f l (omega (arith, ints, r.0, w))
+cut_by-near s j (negsuc a) pass h f l p =
     let r = floor_range s (pos (suc a)) (omega (arith, ints)) p in
     let w = h.near_highs j (pos 0) (omega (arith, h.highs)) in
-    raised_low-near j (at pass.highs j -ℤ floor_of s (pos (suc a))) pass h l (omega (arith, ints, r.0, w))
+    raised_low-near j (at pass.highs j -ℤ floor_of s (pos (suc a))) pass h f l (omega (arith, ints, r.0, w))
 
 cut_term-near : (negate : Bool) (s : ℤ) (pass : Pass) (t : Term) → IsNear pass → t.column < length pass.lows → pos 0 ≤ℤ s → StaysNear pass (cut_term negate s pass t)
-cut_term-near negate s pass t h l p = by (is_full pass)
+cut_term-near negate s pass t h l p = by (is_full pass) refl
   where
-    by : (c : Bool) → StaysNear pass (cond c pass (cut_by s t.column (turned negate t.coefficient) pass))
-    by true = stays pass h
-    by false = cut_by-near s t.column (turned negate t.coefficient) pass h l p
+    by : (c : Bool) → is_full pass ≡ c → StaysNear pass (cond c pass (cut_by s t.column (turned negate t.coefficient) pass))
+    by true e = stays pass h
+    by false e = cut_by-near s t.column (turned negate t.coefficient) pass h (grind (arith, nat_tests)) l p
 
 pub cut_terms-near : (negate : Bool) (s : ℤ) (n : ℕ) (terms : List Term) (pass : Pass) → IsNear pass → length pass.lows ≡ n → All (λ t. t.column < n) terms → pos 0 ≤ℤ s →
     StaysNear pass (cut_terms negate s terms pass)
@@ -85,7 +94,7 @@ by_slack-near : (i : ℕ) (negate : Bool) (n : ℕ) (terms : List Term) (s : ℤ
 by_slack-near i negate n terms s pass h w c = by (int_lt s (pos 0)) refl
   where
     by : (t : Bool) → int_lt s (pos 0) ≡ t → StaysNear pass (cond t (record { lows = pass.lows; highs = pass.highs; decisions = pass.decisions; stuck = Some i }) (cut_terms negate s terms pass))
-    by true e = record { near = record { highs = h.highs; near_lows = h.near_lows; near_highs = h.near_highs }; width = refl }
+    by true e = record { near = record { highs = h.highs; near_lows = h.near_lows; near_highs = h.near_highs; decisions = h.decisions }; width = refl }
     by false e = cut_terms-near negate s n terms pass h w c (omega (arith, ints, e))
 
 pub end_step-near : (i : ℕ) (negate : Bool) (n : ℕ) (terms : List Term) (end : Option ℤ) (pass : Pass) → IsNear pass → length pass.lows ≡ n → All (λ t. t.column < n) terms →

@@ -1,7 +1,7 @@
 -- The law of the pass over a problem and a description.
 use Rattle.std.proofs.Common.{◌≡◌, ℕ, ℤ, List, [], ◌∷◌, length, map, Option, Some, None, refl, sym, ◌∙◌, arith}
 use Rattle.std.proofs.lemmas.Int.{ints}
-use Rattle.std.proofs.lemmas.List.Elements.{All-append, All-map}
+use Rattle.std.proofs.lemmas.List.Elements.{All-append, All-map, All-nil}
 use Rattle.bl_problem.specs.Rows.{AreEnds}
 use Rattle.bl_problem.specs.Program.{Program, IsProgram}
 use Rattle.bl_problem.specs.declared.problem.Row.{Row}
@@ -13,8 +13,11 @@ use Rattle.bl_desc.specs.declared.desc.Desc.{Desc}
 use Rattle.bl_bound.specs.Lines.{lines_of, line_of_row, line_of_cut}
 use Rattle.bl_bound.specs.Descriptions.{Describes, IsLeft}
 use Rattle.bl_bound.proofs.Meets.{lines_meet}
-use Rattle.bl_prop.specs.Limits.{IsEnd, IsLine, AreLines}
-use Rattle.bl_prop.specs.Answers.{pass_of, answer_by, tightened_of, Keeps}
+use Rattle.bl_prop.specs.Limits.{IsEnd, IsLine, AreLines, IsDecision, AreDecisions}
+use Rattle.bl_prop.specs.Passes.{IsNear}
+use Rattle.bl_prop.specs.declared.pass.Pass.{Pass}
+use Rattle.bl_prop.proofs.Nearness.{walked-near}
+use Rattle.bl_prop.specs.Answers.{pass_of, answer_by, tightened_of, IsTightened, Keeps}
 use Rattle.bl_prop.proofs.Law.{Holds, walked-holds}
 
 ends_fit : (low high : Option ℤ) → AreEnds low high → IsEnd low × IsEnd high
@@ -53,3 +56,17 @@ keeps-tightened p desc x h s f =
 pub moved-lines : (p : Program) (desc : Desc Cut) (rows : List Row) (cuts : List Cut) (lows : List ℤ) → IsProgram p → Describes p desc →
     rows ≡ p.rows → cuts ≡ desc.cuts → lows ≡ desc.lows → AreLines (length lows) (lines_of rows cuts)
 moved-lines p desc rows cuts lows h s r c e = rw (r, c, e, s.lows) (are_lines p desc h s)
+
+within-by : (n : ℕ) (stuck : Option ℕ) (decisions : List Decision) → AreDecisions n decisions → IsTightened n (answer_by stuck decisions)
+within-by n (Some i) decisions h = tt
+within-by n None [] h = tt
+within-by n None (d ∷ ds) h = h
+
+-- the decisions of the pass are within the limits
+pub tightened-within : (p : Program) (desc : Desc Cut) → IsProgram p → Describes p desc → IsTightened (length p.columns) (tightened_of p desc)
+tightened-within p desc h s =
+    let start : Pass = record { lows = desc.lows; highs = desc.highs; decisions = []; stuck = None } in
+    let none : AreDecisions (length desc.lows) [] = record { few = omega arith; each = All-nil (IsDecision (length desc.lows)) } in
+    let near : IsNear start = record { highs = s.highs ∙ sym s.lows; near_lows = s.near_lows; near_highs = s.near_highs; decisions = none } in
+    let t = walked-near (length (lines_of p.rows desc.cuts)) (length p.columns) (lines_of p.rows desc.cuts) start (omega arith) near s.lows (are_lines p desc h s) in
+    within-by (length p.columns) (pass_of p desc).stuck (pass_of p desc).decisions (rw (t.width ∙ s.lows) at t.near.decisions)

@@ -10,6 +10,7 @@ use Rattle.bl_prop.specs.declared.pass.Pass.{Pass}
 use Rattle.bl_prop.specs.declared.tightening.Tightened.{Tightened}
 use Rattle.bl_prop.specs.declared.tightening.Tightened.TheVariants.{Empty, Changed, Same}
 use Rattle.bl_prop.specs.Passes.{walked}
+use Rattle.bl_prop.specs.Limits.{AreDecisions}
 
 -- the pass over all rows and cuts, from the description's bounds
 abbrev pub pass_of : Program → Desc Cut → Pass
@@ -29,3 +30,9 @@ abbrev pub Keeps : List ℤ → Tightened → Type 0
 Keeps x (Empty i) = ⊥
 Keeps x (Changed ds) = MeetsAll x ds
 Keeps x Same = Unit {0}
+
+-- the decisions name columns of n and are within the limits
+abbrev pub IsTightened : ℕ → Tightened → Type 0
+IsTightened n (Empty i) = Unit {0}
+IsTightened n (Changed ds) = AreDecisions n ds
+IsTightened n Same = Unit {0}

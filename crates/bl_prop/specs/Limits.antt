@@ -1,7 +1,8 @@
--- The limits of lines.
-use Rattle.std.specs.Prelude.{ℕ, ◌^◌, ℤ, List, Option, Some, None, All}
+-- The limits of lines and of decisions.
+use Rattle.std.specs.Prelude.{ℕ, ◌<◌, ◌≤◌, length, ◌^◌, ℤ, List, Option, Some, None, All}
 use Rattle.bl_problem.specs.Sums.{IsWithin}
 use Rattle.bl_problem.specs.Rows.{AreTerms}
+use Rattle.bl_problem.specs.declared.decision.Decision.{Decision}
 use Rattle.bl_bound.specs.Lines.{Line}
 
 -- an end, where it is there, is within the limit
@@ -17,3 +18,13 @@ pub record IsLine (n : ℕ) (line : Line) : Type 0 where
 
 abbrev pub AreLines : ℕ → List Line → Type 0
 AreLines n lines = All (IsLine n) lines
+
+-- a decision on one of n columns, within the limit
+pub record IsDecision (n : ℕ) (d : Decision) : Type 0 where
+  pub column : d.column < n
+  pub value : IsWithin (10 ^ 9) d.value
+
+-- decisions on n columns, at most 256
+pub record AreDecisions (n : ℕ) (ds : List Decision) : Type 0 where
+  pub few : length ds ≤ 256
+  pub each : All (IsDecision n) ds

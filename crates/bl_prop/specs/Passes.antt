@@ -7,6 +7,7 @@ use Rattle.bl_problem.specs.declared.problem.Term.{Term}
 use Rattle.bl_problem.specs.declared.decision.Side.TheVariants.{AtLeast, AtMost}
 use Rattle.bl_bound.specs.Lines.{Line, line_at}
 use Rattle.bl_prop.specs.declared.pass.Pass.{Pass}
+use Rattle.bl_prop.specs.Limits.{AreDecisions}
 
 -- a number, negated where that is asked: a low end is the negated line's high end
 abbrev pub turned : Bool → ℤ → ℤ
@@ -80,8 +81,9 @@ unfoldable pub walked : ℕ → List Line → Pass → Pass
 walked zero lines pass = pass
 walked (suc n) lines pass = line_step n (line_at lines n) (walked n lines pass)
 
--- one low and one high for each column, within the limits
+-- one low and one high for each column, and the decisions, within the limits
 pub record IsNear (pass : Pass) : Type 0 where
   pub highs : length pass.highs ≡ length pass.lows
   pub near_lows : All (IsWithin (10 ^ 9)) pass.lows
   pub near_highs : All (IsWithin (10 ^ 9)) pass.highs
+  pub decisions : AreDecisions (length pass.lows) pass.decisions

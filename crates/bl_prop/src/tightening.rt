@@ -1,7 +1,7 @@
 //! The answer of a pass.
-ghost use Rattle.std.specs.Prelude.{◌≡◌, List, ℤ, IfOk, OnOk};
+ghost use Rattle.std.specs.Prelude.{◌≡◌, List, ℤ, length, IfOk, OnOk};
 ghost use Rattle.bl_bound.specs.Descriptions.{Describes, IsLeft};
-ghost use Rattle.bl_prop.specs.Answers.{tightened_of, answer_by, Keeps};
+ghost use Rattle.bl_prop.specs.Answers.{tightened_of, answer_by, IsTightened, Keeps};
 
 use crate::pass::Pass;
 use bl_desc::Desc;
@@ -26,6 +26,7 @@ pub enum Tightened {
 pub fn tighten(alloc: Global, problem: &Problem, desc: &Desc<Cut>) -> Result<Tightened, AllocError>
     requires suits { Describes problem.now desc.now }
     ensures exact { IfOk result (λ t. t ≡ tightened_of problem.now desc.now) }
+    ensures within { IfOk result (IsTightened (length problem.now.columns)) }
     ensures keeps { IfOk result (λ t. (x : List ℤ) → IsLeft problem.now desc.now x → Keeps x t) }
 {
     let mut pass = Pass {
