@@ -1,21 +1,17 @@
 -- What a split gives its children.
 use Rattle.std.proofs.Common.{◌≡◌, ℕ, ◌+◌, List, [], ◌∷◌, length, refl, ap, ◌∙◌, arith, Option}
-use Rattle.std.specs.Prelude.{ℤ, pos, ◌≤ℤ◌, slice_index_or, ◌%◌}
+use Rattle.std.specs.Prelude.{ℤ, pos, ◌≤ℤ◌, slice_index_or}
 use Rattle.std.proofs.lemmas.Int.{ints}
-use Rattle.std.proofs.lemmas.Bool.{eq-eqb, cond-true}
 use Rattle.std.proofs.lemmas.List.{get_or_at, get_or-append-add}
 use Rattle.bl_problem.specs.Program.{Program}
 use Rattle.bl_problem.specs.declared.cut.Cut.{Cut}
 use Rattle.bl_desc.specs.declared.change.Change.{Change}
-use Rattle.bl_desc.specs.declared.desc.Piece.TheVariants.{Explicit}
 use Rattle.bl_desc.specs.Changes.{changed}
 use Rattle.bl_journal.specs.declared.entry.Entry.{Entry}
 use Rattle.bl_journal.specs.declared.entry.Entry.TheVariants.{Put}
 use Rattle.bl_journal.specs.declared.entry.Step.TheVariants.{Split}
-use Rattle.bl_journal.specs.declared.settings.Settings.{Settings}
 use Rattle.bl_journal.specs.Births.{Node, nodes_of, node_at, root_node, left_branch, right_branch}
 use Rattle.bl_journal.specs.Descriptions.{full_of, full_along, left_child, right_child}
-use Rattle.bl_journal.specs.Pieces.{stored_of, piece_in}
 use Rattle.bl_journal.specs.Legality.{MayPut}
 use Rattle.bl_journal.proofs.Leaves.{left_of, right_of}
 use Rattle.bl_journal.proofs.Children.{full_along-push}
@@ -35,10 +31,3 @@ right_follows p past seat id found low common column at may =
     let least : slice_index_or (changed common (full_of p past id)).lows column (pos 0) ≤ℤ at = may.sound.next_ok.low_at_most in
     ap (λ (n : Node). full_along p n.path) node
     ∙ full_along-push p (node_at p past id).path (right_branch common column at) may.sound.next_ok.common_fits (omega (arith, ints, least))
-
--- with span 1 each node is stored whole
-pub stored_explicit : (p : Program) (s : Settings) (past : List Entry) (id : ℕ) → s.span ≡ 1 → stored_of p s past id ≡ Explicit (full_of p past id)
-stored_explicit p s past id e =
-    let m : (node_at p past id).depth % s.span ≡ 0 = rw e (omega arith) in
-    let t = eq-eqb ((node_at p past id).depth % s.span) 0 m in
-    ap (piece_in p past id) (cond-true _ _ _ t)

@@ -15,3 +15,5 @@ pub mod Workable
 pub mod Rows
 pub mod Births
 pub mod Ends
+pub mod Newborns
+pub mod Upkeep

@@ -117,3 +117,9 @@ lines p s (Free seat ids ∷ past) l id h = lines p s past l.1 id h
 lines p s (Put seat i found low Shut ∷ past) l id h = lines p s past l.1 id h
 lines p s (Put seat i found low (Split common column at) ∷ past) l id h =
     lines_split p s past seat i found low common column at l.1 l.0 (λ k b. lines p s past l.1 k b) id h
+
+-- a node stands so to the parent that it has
+pub line_to : (p : Program) (s : Settings) (past : List Entry) → IsLegalPast p s past → (id : ℕ) → id < length (nodes_of p past) → (q : ℕ) → (node_at p past id).parent ≡ Some q
+    → IsChildOf p (node_at p past q) q id (node_at p past id)
+line_to p s past l id born q e =
+    subst (λ (o : Option ℕ). IfSome o (λ k. IsChildOf p (node_in p (nodes_of p past) k) k id (node_at p past id))) e (lines p s past l id born)

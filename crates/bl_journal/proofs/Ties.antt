@@ -133,7 +133,7 @@ chain_free p s past (q0 ∷ ids) ch c q born rel parent m =
       | inr r ↦ freed_or_among c q0 ids (state_of past c) (climbs_free p s (Free 0 (q0 ∷ []) ∷ past) q0 ids ch.1 c q born rel parent r)
     ]
 
-is_freed-is : (t : State) → is_freed t ≡ true → t ≡ freed
+pub is_freed-is : (t : State) → is_freed t ≡ true → t ≡ freed
 is_freed-is waiting e = cc
 is_freed-is (out seat) e = cc
 is_freed-is split e = cc

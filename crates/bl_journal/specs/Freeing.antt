@@ -1,5 +1,5 @@
 -- Which nodes may be freed, and in which order.
-use Rattle.std.specs.Prelude.{◌≡◌, ℕ, Bool, true, false, not, ◌&&◌, ◌||◌, List, [], ◌∷◌, find, Option, Some, None, ◌==◌}
+use Rattle.std.specs.Prelude.{◌≡◌, ◌<◌, ℕ, Bool, true, false, not, ◌&&◌, ◌||◌, List, [], ◌∷◌, length, filter, find, Option, Some, None, ◌==◌}
 use Rattle.std.specs.List.{list_all}
 use Rattle.bl_problem.specs.Program.{Program}
 use Rattle.bl_desc.specs.declared.desc.Form.{Form}
@@ -7,7 +7,7 @@ use Rattle.bl_desc.specs.declared.desc.Form.TheVariants.{Explicit, Relative}
 use Rattle.bl_journal.specs.declared.entry.Entry.{Entry}
 use Rattle.bl_journal.specs.declared.entry.Entry.TheVariants.{Free}
 use Rattle.bl_journal.specs.declared.settings.Settings.{Settings}
-use Rattle.bl_journal.specs.Births.{node_at}
+use Rattle.bl_journal.specs.Births.{nodes_of, node_at}
 use Rattle.bl_journal.specs.States.{State, waiting, out, split, shut, freed, state_of, form_of, is_open}
 use Rattle.bl_journal.specs.Replies.{ids_of}
 use Rattle.bl_journal.specs.Pieces.{is_freed}
@@ -54,3 +54,11 @@ Climbs p s past id (q ∷ ids) =
 abbrev pub IsFreeChain : Program → Settings → List Entry → List ℕ → Type 0
 IsFreeChain p s past [] = ⊥
 IsFreeChain p s past (id ∷ ids) = (first_freeable p s past ≡ Some id) × Climbs p s (Free 0 (id ∷ []) ∷ past) id ids
+
+-- no node may be freed
+abbrev pub HasNothingToFree : Program → Settings → List Entry → Type 0
+HasNothingToFree p s past = (id : ℕ) → id < length (nodes_of p past) → is_freeable p s past id ≡ false
+
+-- how many nodes are not freed
+abbrev pub standing_of : Program → List Entry → ℕ
+standing_of p past = length (filter (λ id. not (is_freed (state_of past id))) (ids_of p past))

@@ -2,7 +2,6 @@
 use Rattle.std.specs.Prelude.{◌∷◌, Option, ℤ}
 use Rattle.bl_problem.specs.declared.cut.Cut.{Cut}
 use Rattle.bl_desc.specs.declared.change.Change.{Change}
-use Rattle.bl_desc.specs.declared.desc.Piece.TheVariants.{Explicit}
 use Rattle.bl_desc.specs.Changes.{changed}
 use Rattle.bl_journal.specs.declared.entry.Entry.TheVariants.{Put}
 use Rattle.bl_journal.specs.declared.entry.Step.TheVariants.{Split}
@@ -16,9 +15,10 @@ use Rattle.bl_journal.specs.Legality.{IsLegal, HasUnfreedParent, MayPut}
 use Rattle.bl_problem.specs.Points.{own_lows, own_highs, points_in}
 use Rattle.bl_problem.specs.Cuts.{SuitsProblem, IsValidCut}
 use Rattle.bl_desc.specs.Changes.{IsWhole}
+use Rattle.bl_mods.specs.Mods.{IsPartThenFresh}
 use Rattle.bl_journal.specs.States.{used_of, is_live, state_of, freed, out, form_of, has_point}
 use Rattle.bl_desc.specs.declared.desc.Form.TheVariants.{Relative}
-use Rattle.bl_journal.specs.Pieces.{chain_of, rebuilt, stored_of}
+use Rattle.bl_journal.specs.Pieces.{chain_of, rebuilt, stored_of, form_at_birth, piece_below}
 use Rattle.bl_journal.specs.Results.{room_of, IsBetter, LiesIn, IsTrueFor, answer_of, HasNoLive, IsFinal, IsSpent}
 use Rattle.bl_journal.specs.Replies.{take_reply, done, spent}
 
@@ -51,6 +51,16 @@ pub record ChainsRebuild : Type 0 where
   pub short : (p : Program) (s : Settings) (history : List Entry) (id : ℕ) → IsLegal p s history → 0 < s.span → id < length (nodes_of p (reverse history)) → state_of (reverse history) id ≢ freed → length (chain_of p s (reverse history) id) ≤ s.span
   pub rebuilds : (p : Program) (s : Settings) (history : List Entry) (id : ℕ) → IsLegal p s history → 0 < s.span → id < length (nodes_of p (reverse history)) → state_of (reverse history) id ≢ freed → rebuilt (chain_of p s (reverse history) id) ≡ Some (full_of p (reverse history) id)
 
+-- in a legal history the description of each node that is born is whole and has the problem's counts of columns and rows, and at most 200 cuts, of different ids. A parent is born before its child, whose cuts are a part of the parent's and then fresh ones
+pub record DescriptionsAreWhole : Type 0 where
+  pub whole : (p : Program) (s : Settings) (history : List Entry) (id : ℕ) → IsLegal p s history → id < length (nodes_of p (reverse history)) → IsWhole (full_of p (reverse history) id)
+  pub columns : (p : Program) (s : Settings) (history : List Entry) (id : ℕ) → IsLegal p s history → id < length (nodes_of p (reverse history)) → length (full_of p (reverse history) id).lows ≡ length p.columns
+  pub rows : (p : Program) (s : Settings) (history : List Entry) (id : ℕ) → IsLegal p s history → id < length (nodes_of p (reverse history)) → length (full_of p (reverse history) id).row_status ≡ length p.rows
+  pub few : (p : Program) (s : Settings) (history : List Entry) (id : ℕ) → IsLegal p s history → id < length (nodes_of p (reverse history)) → length (full_of p (reverse history) id).cuts ≤ 200
+  pub ids : (p : Program) (s : Settings) (history : List Entry) (id : ℕ) → IsLegal p s history → id < length (nodes_of p (reverse history)) → AllPairs (λ a b. a.id ≢ b.id) (full_of p (reverse history) id).cuts
+  pub before : (p : Program) (s : Settings) (history : List Entry) (id parent : ℕ) → IsLegal p s history → id < length (nodes_of p (reverse history)) → (node_at p (reverse history) id).parent ≡ Some parent → parent < id
+  pub part : (p : Program) (s : Settings) (history : List Entry) (id parent : ℕ) → IsLegal p s history → id < length (nodes_of p (reverse history)) → (node_at p (reverse history) id).parent ≡ Some parent → IsPartThenFresh (λ c. c.id) (full_of p (reverse history) parent).cuts (full_of p (reverse history) id).cuts
+
 -- in a legal history the description of a node that is out is whole and its box has a point, and its cuts are few, suit the problem, hold and have different ids
 pub record LeasesAreWorkable : Type 0 where
   pub whole : (p : Program) (s : Settings) (history : List Entry) (id seat : ℕ) → IsLegal p s history → state_of (reverse history) id ≡ out seat → IsWhole (full_of p (reverse history) id)
@@ -69,10 +79,10 @@ pub record ChildrenFollow : Type 0 where
   pub left : (p : Program) (s : Settings) (history : List Entry) (seat id : ℕ) (found : Option (List ℤ)) (low : ℤ) (common : Change Cut) (column : ℕ) (at : ℤ) → IsLegal p s history → MayPut p (reverse history) seat id found low (Split common column at) → full_of p (Put seat id found low (Split common column at) ∷ reverse history) (length (nodes_of p (reverse history))) ≡ left_child (changed common (full_of p (reverse history) id)) column at
   pub right : (p : Program) (s : Settings) (history : List Entry) (seat id : ℕ) (found : Option (List ℤ)) (low : ℤ) (common : Change Cut) (column : ℕ) (at : ℤ) → IsLegal p s history → MayPut p (reverse history) seat id found low (Split common column at) → full_of p (Put seat id found low (Split common column at) ∷ reverse history) (length (nodes_of p (reverse history)) + 1) ≡ right_child (changed common (full_of p (reverse history) id)) column at
 
--- with span 1 each node is stored whole
-abbrev pub SpanOneIsExplicit : Type 0
-SpanOneIsExplicit =
-    (p : Program) (s : Settings) (past : List Entry) (id : ℕ) → s.span ≡ 1 → stored_of p s past id ≡ Explicit (full_of p past id)
+-- in a legal history a split's children are stored whole where the span divides their depth, and else as the canonical differences from their parent's description
+pub record NewbornsAreStored : Type 0 where
+  pub left : (p : Program) (s : Settings) (history : List Entry) (seat id : ℕ) (found : Option (List ℤ)) (low : ℤ) (common : Change Cut) (column : ℕ) (at : ℤ) → IsLegal p s history → MayPut p (reverse history) seat id found low (Split common column at) → stored_of p s (Put seat id found low (Split common column at) ∷ reverse history) (length (nodes_of p (reverse history))) ≡ piece_below (full_of p (reverse history) id) (form_at_birth s.span ((node_at p (reverse history) id).depth + 1)) (full_of p (Put seat id found low (Split common column at) ∷ reverse history) (length (nodes_of p (reverse history))))
+  pub right : (p : Program) (s : Settings) (history : List Entry) (seat id : ℕ) (found : Option (List ℤ)) (low : ℤ) (common : Change Cut) (column : ℕ) (at : ℤ) → IsLegal p s history → MayPut p (reverse history) seat id found low (Split common column at) → stored_of p s (Put seat id found low (Split common column at) ∷ reverse history) (length (nodes_of p (reverse history)) + 1) ≡ piece_below (full_of p (reverse history) id) (form_at_birth s.span ((node_at p (reverse history) id).depth + 1)) (full_of p (Put seat id found low (Split common column at) ∷ reverse history) (length (nodes_of p (reverse history)) + 1))
 
 -- in a legal history a take is answered Done only where no node is live, and the answer is then final. It is answered Spent only where as many nodes are used as may be and a live node waits, and then twice the number of the root's points is greater by 2 or more than the number of nodes that may be used
 pub record RepliesEndSearches : Type 0 where

@@ -9,3 +9,4 @@ pub mod Freeing
 pub mod Legality
 pub mod Results
 pub mod Laws
+pub mod Tidying

@@ -1,5 +1,5 @@
 -- How nodes are stored_of.
-use Rattle.std.specs.Prelude.{ℕ, Bool, true, false, List, [], ◌∷◌, ◌++◌, sum_by, filter, not, Option, Some, None}
+use Rattle.std.specs.Prelude.{ℕ, ◌%◌, Bool, true, false, List, [], ◌∷◌, ◌++◌, sum_by, filter, not, Option, Some, None, if◌then◌else◌, ◌==◌}
 use Rattle.bl_problem.specs.Program.{Program}
 use Rattle.bl_problem.specs.declared.cut.Cut.{Cut}
 use Rattle.bl_desc.specs.declared.desc.Desc.{Desc}
@@ -27,6 +27,15 @@ piece_in p past id RelativeForm = difference_from p past (node_at p past id).par
 
 abbrev pub stored_of : Program → Settings → List Entry → ℕ → Piece Cut
 stored_of p s past id = piece_in p past id (form_of p s past id)
+
+-- the form of a node when it is born: explicit where the span divides its depth
+abbrev pub form_at_birth : (span depth : ℕ) → Form
+form_at_birth span depth = if depth % span == 0 then ExplicitForm else RelativeForm
+
+-- a child in a form: its description, or the canonical difference from its parent's
+abbrev pub piece_below : Desc Cut → Form → Desc Cut → Piece Cut
+piece_below parent ExplicitForm d = Explicit d
+piece_below parent RelativeForm d = Relative (difference (λ c. c.id) parent d)
 
 abbrev pub chained : List (Piece Cut) → Piece Cut → List (Piece Cut)
 chained chain (Explicit d) = Explicit d ∷ []

@@ -1,5 +1,5 @@
 //! Laws over histories: each is what a function with nothing to do ensures, in the words of `specs/Laws.antt`.
-ghost use Rattle.bl_journal.specs.Laws.{NodesAreStable, LiveNodesCover, AnswersAreTrue, BudgetHolds, ChainsRebuild, LeasesAreWorkable, ChildrenFollow, SpanOneIsExplicit, RepliesEndSearches};
+ghost use Rattle.bl_journal.specs.Laws.{NodesAreStable, LiveNodesCover, AnswersAreTrue, BudgetHolds, ChainsRebuild, LeasesAreWorkable, ChildrenFollow, RepliesEndSearches, DescriptionsAreWhole, NewbornsAreStored};
 
 /// A node that is born keeps its parent, depth, low number and path under every longer history, and so its description.
 pub fn nodes_are_stable()
@@ -26,6 +26,11 @@ pub fn chains_rebuild()
     ensures { ChainsRebuild }
 {}
 
+/// In a legal history the description of each node that is born is whole and has the problem's counts of columns and rows, and at most 200 cuts, of different ids. A parent is born before its child, whose cuts are a part of the parent's and then fresh ones.
+pub fn descriptions_are_whole()
+    ensures { DescriptionsAreWhole }
+{}
+
 /// In a legal history the description of a node that is out is whole and its box has a point, and its cuts are few, suit the problem, hold and have different ids.
 pub fn leases_are_workable()
     ensures { LeasesAreWorkable }
@@ -36,9 +41,9 @@ pub fn children_follow()
     ensures { ChildrenFollow }
 {}
 
-/// With span 1 each node is stored whole.
-pub fn span_one_is_explicit()
-    ensures { SpanOneIsExplicit }
+/// In a legal history a split's children are stored whole where the span divides their depth, and else as the canonical differences from their parent's description.
+pub fn newborns_are_stored()
+    ensures { NewbornsAreStored }
 {}
 
 /// In a legal history a take is answered Done only where no node is live, and the answer is then final. It is answered Spent only where as many nodes are used as may be and a live node waits, and then twice the number of the root's points is greater by 2 or more than the number of nodes that may be used.

@@ -10,12 +10,12 @@ use Rattle.bl_problem.specs.declared.problem.Term.{Term}
 use Rattle.bl_mps.specs.declared.entries.Entry.{Entry}
 use Rattle.bl_problem.specs.Rows.{AreEnds}
 use Rattle.bl_problem.specs.Sums.{IsWithin}
-use Rattle.bl_mps.specs.declared.kind.What.{What}
-use Rattle.bl_mps.specs.declared.kind.What.TheVariants as what
+use Rattle.bl_cards.specs.declared.kind.What.{What}
+use Rattle.bl_cards.specs.declared.kind.What.TheVariants as what
 use Rattle.bl_mps.specs.declared.scale.RowEnds.{RowEnds}
-use Rattle.bl_mps.specs.declared.kind.Role.{Role}
-use Rattle.bl_mps.specs.declared.kind.Role.TheVariants.{Objective, Extra, AtMost, AtLeast, Equal}
-use Rattle.bl_mps.specs.Lines.{is_limited}
+use Rattle.bl_cards.specs.declared.kind.Role.{Role}
+use Rattle.bl_cards.specs.declared.kind.Role.TheVariants.{Objective, Extra, AtMost, AtLeast, Equal}
+use Rattle.bl_cards.specs.Lines.{is_limited}
 use Rattle.bl_mps.specs.Meaning.{low_end, high_end, ends_of, is_within, term_of, terms_of, term_within, end_within, limited}
 use Rattle.bl_mps.specs.Views.{ends_within}
 

@@ -1,22 +1,18 @@
 -- What is kept for each name, when one more number or card comes.
 use Rattle.std.proofs.Common.{◌≡◌, ℕ, ◌+◌, Bool, true, false, cond, ◌&&◌, List, [], ◌∷◌, ◌++◌, map, length, get_or, set, replicate, Option, Some, None, refl, sym, ap, ◌∙◌}
 use Rattle.std.specs.Prelude.{filter, not}
-use Rattle.std.specs.Cmp.Lexicographic.{bytes_decides}
 use Rattle.std.proofs.lemmas.List.{map-append, replicate-append-replicate}
 use Rattle.std.proofs.lemmas.List.Elements.{filter-append}
 use Rattle.std.proofs.lemmas.List.Sums.{fold_push}
 use Rattle.bl_mps.specs.declared.entries.Entry.{Entry}
-use Rattle.bl_mps.specs.declared.kind.Ends.{Ends}
-use Rattle.bl_mps.specs.Said.{same, place_of, Differ, Cell, Card}
+use Rattle.bl_mps.specs.declared.ends.Ends.{Ends}
+use Rattle.bl_cards.specs.Said.{same, place_of, Differ, Cell, Card}
 use Rattle.bl_mps.specs.Meaning.{is_zero, entries_of, entry_of, cells_of, cards_of, carded, ends_set, acted, unset, ends_or}
-use Rattle.bl_mps.proofs.PerName.{written_at, read_at, map_same, same_turned}
+use Rattle.bl_mps.proofs.PerName.{same_self, written_at, read_at, map_same, same_turned}
 
 append_nothing : {A : Type 0} (xs : List A) → xs ++ [] ≡ xs
 append_nothing [] = refl
 append_nothing (x ∷ xs) = ap (λ (ys : List _). x ∷ ys) (append_nothing xs)
-
-pub same_self : (a : List ℕ) → same a a ≡ true
-same_self a = (bytes_decides a a).1 refl
 
 -- ---- terms
 

@@ -9,17 +9,18 @@ use Rattle.bl_num.specs.Decimals.{in_units}
 use Rattle.bl_problem.specs.declared.problem.Term.{Term}
 use Rattle.bl_problem.specs.declared.problem.Column.{Column}
 use Rattle.bl_problem.specs.declared.problem.Row.{Row}
-use Rattle.bl_mps.specs.declared.fault.LineFault.{LineFault}
-use Rattle.bl_mps.specs.declared.fault.LineFault.TheVariants.{Memory, Broken}
-use Rattle.bl_mps.specs.declared.kind.What.TheVariants as what
-use Rattle.bl_mps.specs.declared.kind.Ends.{Ends}
+use Rattle.bl_cards.specs.declared.fault.LineFault.{LineFault}
+use Rattle.bl_cards.specs.declared.fault.LineFault.TheVariants.{Memory, Broken}
+use Rattle.bl_cards.specs.declared.kind.What.TheVariants as what
+use Rattle.bl_mps.specs.declared.ends.Ends.{Ends}
 use Rattle.bl_mps.specs.declared.scale.RowEnds.{RowEnds}
 use Rattle.bl_mps.specs.declared.finish.ScaledObjective.{ScaledObjective}
-use Rattle.bl_mps.specs.Said.{RowLine, Said}
-use Rattle.bl_mps.specs.Lines.{is_limited, has_objective}
+use Rattle.bl_cards.specs.Said.{RowLine, Said}
+use Rattle.bl_cards.specs.Lines.{is_limited, has_objective}
 use Rattle.bl_mps.specs.Meaning.{RowSaid, terms_of, range_in, ends_of, row_in, row_of, rows_of, column_of, columns_from, objective_of, all_ends, ends_or, binary, are_whole, are_bounded, is_within, term_within, end_within, row_within, objective_within, keeps_limits, limited, program_of, finished}
-use Rattle.bl_mps.specs.Coherence.{IsCoherent}
-use Rattle.bl_mps.specs.Views.{Gives, ends_within}
+use Rattle.bl_cards.specs.Coherence.{IsCoherent}
+use Rattle.bl_cards.specs.Views.{Gives}
+use Rattle.bl_mps.specs.Views.{ends_within}
 use Rattle.bl_mps.proofs.Limits.{kept, wide, second_far, ends_by, some_by, number_by, some_number}
 use Rattle.bl_mps.proofs.Programs.{costs_within, costs_rise, costs_inside}
 

@@ -18,18 +18,16 @@ use Rattle.bl_problem.specs.Sums.{IsWithin}
 use Rattle.bl_problem.specs.Rows.{AreTerms, IsTerm, coefficient_of}
 use Rattle.bl_problem.specs.Program.{IsName, IsRowName, IsColumn, IsRow, HasTen, IsProgram}
 use Rattle.bl_mps.specs.declared.entries.Entry.{Entry}
-use Rattle.bl_mps.specs.declared.kind.Ends.{Ends}
-use Rattle.bl_mps.specs.declared.kind.Act.{Act}
-use Rattle.bl_mps.specs.declared.kind.Act.TheVariants as act
-use Rattle.bl_mps.specs.declared.kind.Role.TheVariants.{Extra}
-use Rattle.bl_mps.specs.Said.{same, place_of, Differ, RowLine, Cell, Given, Card, SetOf, Said}
-use Rattle.bl_mps.specs.Lines.{is_objective, is_limited, is_extra, has_objective, count_limited}
-use Rattle.bl_mps.specs.Meaning.{is_zero, cells_of, entry_of, entries_of, term_of, terms_of, given_for, or_zero, said_of, places_of, range_in, row_of, rows_of, objective_in, objective_said, objective_of, lowered, set_ends, acted, unset, carded, ends_or, binary, cards_of, end_or_zero, column_of, columns_from, program_of, is_within, term_within, end_within, row_within, keeps_limits}
-use Rattle.bl_mps.specs.Coherence.{IsRead, IsSmall, IsCell, IsBefore, IsCoherent, IsRowRead}
+use Rattle.bl_mps.specs.declared.ends.Ends.{Ends}
+use Rattle.bl_cards.specs.declared.kind.Act.{Act}
+use Rattle.bl_cards.specs.declared.kind.Act.TheVariants as act
+use Rattle.bl_cards.specs.declared.kind.Role.TheVariants.{Extra}
+use Rattle.bl_cards.specs.Said.{same, place_of, Differ, RowLine, Cell, Given, Card, SetOf, Said}
+use Rattle.bl_cards.specs.Lines.{is_objective, is_limited, is_extra, has_objective, count_limited, given_for, objective_in}
+use Rattle.bl_mps.specs.Meaning.{is_zero, cells_of, entry_of, entries_of, term_of, terms_of, or_zero, said_of, places_of, range_in, row_of, rows_of, objective_said, objective_of, lowered, set_ends, acted, unset, carded, ends_or, binary, cards_of, end_or_zero, column_of, columns_from, program_of, is_within, term_within, end_within, row_within, keeps_limits, IsRowRead}
+use Rattle.bl_cards.specs.Coherence.{IsRead, IsSmall, IsCell, IsBefore, IsCoherent, IsGiven, IsCard}
 use Rattle.bl_mps.specs.Views.{row_said}
-use Rattle.bl_mps.proofs.PerName.{same_is}
-use Rattle.bl_mps.proofs.Lists.{same_self}
-use Rattle.bl_mps.proofs.CoherentLines.{GivenRead, CardSmall}
+use Rattle.bl_mps.proofs.PerName.{same_is, same_self}
 use Rattle.bl_mps.proofs.Units.{Reached, places_few, places_reached, units_nonzero, units_last, ten_negated}
 use Rattle.bl_mps.proofs.Limits.{both, all_true, one_fails, within_is, ends_are}
 
@@ -141,20 +139,20 @@ set_small act.NoLow e n h s = record { low_is = zero_small; high_is = h.high_is 
 set_small act.NoHigh e n h s = record { low_is = h.low_is; high_is = zero_small }
 set_small act.Binary e n h s = record { low_is = zero_small; high_is = one_small }
 
-folded : (cards : List Card) (e : Ends) → All CardSmall cards → SmallEnds e → SmallEnds (fold acted e cards)
+folded : (cards : List Card) (e : Ends) → All IsCard cards → SmallEnds e → SmallEnds (fold acted e cards)
 folded [] e h s = s
 folded (c ∷ cards) e h s = folded cards (acted e c) (λ k d l. h (suc k) d (omega arith)) (set_small c.act e c.number s (h 0 c (omega arith)))
 
-carded_small : (cards : List Card) → All CardSmall cards → SmallEnds (ends_or binary (carded cards))
+carded_small : (cards : List Card) → All IsCard cards → SmallEnds (ends_or binary (carded cards))
 carded_small [] h = record { low_is = zero_small; high_is = one_small }
 carded_small (c ∷ cards) h = folded (c ∷ cards) unset h (record { low_is = zero_small; high_is = zero_small })
 
-column_is : (s : Said) (costs : List Term) (m j : ℕ) (name : List ℕ) → All CardSmall s.bounds.given → All (IsTerm m) costs → IsName name → IsColumn (column_of s costs j name)
+column_is : (s : Said) (costs : List Term) (m j : ℕ) (name : List ℕ) → All IsCard s.bounds.given → All (IsTerm m) costs → IsName name → IsColumn (column_of s costs j name)
 column_is s costs m j name h t n =
-    let e = carded_small (cards_of s.bounds.given name) (All-filter (λ (c : Card). same name c.column) CardSmall s.bounds.given h) in
+    let e = carded_small (cards_of s.bounds.given name) (All-filter (λ (c : Card). same name c.column) IsCard s.bounds.given h) in
     record { name = n; low = e.low_is; high = e.high_is; cost = small_in m j costs t }
 
-columns_are : (s : Said) (costs : List Term) (m j : ℕ) (names : List (List ℕ)) → All CardSmall s.bounds.given → All (IsTerm m) costs → All IsName names → All IsColumn (columns_from s costs j names)
+columns_are : (s : Said) (costs : List Term) (m j : ℕ) (names : List (List ℕ)) → All IsCard s.bounds.given → All (IsTerm m) costs → All IsName names → All IsColumn (columns_from s costs j names)
 columns_are s costs m j [] h t n = λ k d l. absurd (omega arith)
 columns_are s costs m j (name ∷ names) h t n =
     All-cons IsColumn (column_of s costs j name) (columns_from s costs (suc j) names) (column_is s costs m j name h t (n 0 name (omega arith))) (columns_are s costs m (suc j) names h t (λ k d l. n (suc k) d (omega arith)))
@@ -239,11 +237,11 @@ costs_within s costs names r h = by (list_all term_within costs) refl
 
 -- ---- rows
 
-given_read : (given : List Given) (row : List ℕ) → All GivenRead given → IsRead (or_zero (given_for given row))
+given_read : (given : List Given) (row : List ℕ) → All IsGiven given → IsRead (or_zero (given_for given row))
 given_read [] row h = record { canonical = inl refl; limits = (omega (arith, ints), omega arith) }
 given_read (g ∷ given) row h = by (same row g.row) (h 0 g (omega arith)) (given_read given row (λ k d l. h (suc k) d (omega arith)))
   where
-    by : (b : Bool) → GivenRead g → IsRead (or_zero (given_for given row)) → IsRead (or_zero (cond b (Some g.number) (given_for given row)))
+    by : (b : Bool) → IsGiven g → IsRead (or_zero (given_for given row)) → IsRead (or_zero (cond b (Some g.number) (given_for given row)))
     by true x i = x
     by false x i = i
 

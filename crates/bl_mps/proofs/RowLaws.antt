@@ -6,9 +6,9 @@ use Rattle.bl_num.specs.declared.Decimal.{Decimal}
 use Rattle.bl_num.specs.Decimals.{in_units}
 use Rattle.bl_num.proofs.Scaled.{canonical_places}
 use Rattle.bl_num.proofs.Readings.{units_keep_value}
-use Rattle.bl_mps.specs.declared.kind.Role.TheVariants.{Objective, Extra, AtMost, AtLeast, Equal}
+use Rattle.bl_cards.specs.declared.kind.Role.TheVariants.{Objective, Extra, AtMost, AtLeast, Equal}
 use Rattle.bl_mps.specs.Meaning.{or_zero}
-use Rattle.bl_mps.specs.Coherence.{IsRead}
+use Rattle.bl_cards.specs.Coherence.{IsRead}
 use Rattle.bl_mps.specs.Laws.{RangesWiden, IsWholeIn, ScaleIsLeast}
 use Rattle.bl_mps.proofs.Units.{places_above, right_above, range_above, places_least}
 

@@ -9,8 +9,7 @@ use Rattle.bl_num.specs.Spellings.{IsCanonical}
 use Rattle.bl_num.proofs.Powers.{ten_pow-positive}
 use Rattle.bl_problem.specs.Program.{HasTen}
 use Rattle.bl_mps.specs.declared.entries.Entry.{Entry}
-use Rattle.bl_mps.specs.Meaning.{RowSaid, or_zero, places_of}
-use Rattle.bl_mps.specs.Coherence.{IsRowRead}
+use Rattle.bl_mps.specs.Meaning.{RowSaid, or_zero, places_of, IsRowRead}
 
 -- ---- places
 

@@ -1,56 +1,22 @@
 -- What the reading comes to, in other words.
-use Rattle.std.specs.Prelude.{◌≡◌, ◌≢◌, ◌⊎◌, ◌↔◌, ℕ, ◌+◌, ◌^◌, ◌≤◌, true, false, List, [], ◌∷◌, ◌++◌, length, All, Some, Ok, Err, ℤ, pos, ◌+ℤ◌, ◌*ℤ◌, ◌≤ℤ◌, nat_abs}
+use Rattle.std.specs.Prelude.{◌≡◌, ◌≢◌, ◌⊎◌, ◌↔◌, ℕ, ◌^◌, ◌≤◌, true, List, All, Some, Ok, Err, ℤ, pos, ◌+ℤ◌, ◌*ℤ◌, ◌≤ℤ◌, nat_abs}
 use Rattle.bl_num.specs.declared.Decimal.{Decimal}
 use Rattle.bl_text.specs.Pieces.{lines_of}
 use Rattle.bl_problem.specs.Program.{Program}
-use Rattle.bl_mps.specs.declared.kind.What.{What}
-use Rattle.bl_mps.specs.declared.kind.What.TheVariants as what
-use Rattle.bl_mps.specs.declared.kind.Role.{Role}
-use Rattle.bl_mps.specs.declared.kind.Role.TheVariants.{Objective, Extra, AtMost, AtLeast, Equal}
-use Rattle.bl_mps.specs.Said.{Said, nothing_said}
-use Rattle.bl_mps.specs.Lines.{is_limited}
-use Rattle.bl_mps.specs.Meaning.{RowSaid, or_zero, places_of, low_end, high_end, finished}
-use Rattle.bl_mps.specs.Coherence.{IsRowRead}
-use Rattle.bl_mps.specs.Reading.{Fault, after_line, is_end, read_of}
-use Rattle.bl_mps.specs.Sections.{IsReadBySections}
-use Rattle.bl_mps.specs.Named.{IsNamedByLines}
-use Rattle.bl_mps.specs.Sets.{AreGivenByLines}
+use Rattle.bl_cards.specs.declared.kind.What.{What}
+use Rattle.bl_cards.specs.declared.kind.Role.{Role}
+use Rattle.bl_cards.specs.declared.kind.Role.TheVariants.{Objective, Extra, AtMost, AtLeast, Equal}
+use Rattle.bl_cards.specs.Said.{Said, nothing_said}
+use Rattle.bl_cards.specs.Lines.{is_limited}
+use Rattle.bl_cards.specs.Reading.{Fault}
+use Rattle.bl_cards.specs.Sections.{IsReadBySections}
+use Rattle.bl_cards.specs.Named.{IsNamedByLines}
+use Rattle.bl_cards.specs.Sets.{AreGivenByLines}
+use Rattle.bl_cards.specs.Laws.{LineBreaks, EndIsMissing, Ends}
+use Rattle.bl_mps.specs.Meaning.{RowSaid, IsRowRead, or_zero, places_of, low_end, high_end, finished}
+use Rattle.bl_mps.specs.Reading.{read_of}
 
 -- ---- the first fault
-
--- no line breaks a rule or comes behind the ENDATA line, and together they said this
-abbrev pub AreGood : Said → List (List ℕ) → Said → Type 0
-AreGood s [] t = s ≡ t
-AreGood s (line ∷ lines) t = (u : Said) × (is_end s.section ≡ false) × (after_line s line ≡ Ok u) × AreGood u lines t
-
--- behind lines without a fault comes one that breaks a rule, and this is the first that it breaks
-pub record LineBreaks (start : Said) (lines : List (List ℕ)) (line : ℕ) (w : What) : Type 0 where
-  pub before : List (List ℕ)
-  pub here : List ℕ
-  pub after : List (List ℕ)
-  pub said : Said
-  pub parts : lines ≡ before ++ here ∷ after
-  pub good : AreGood start before said
-  pub open_still : is_end said.section ≡ false
-  pub broken : after_line said here ≡ Err w
-  pub number : line ≡ length before + 1
-
--- no line breaks a rule, and none is the ENDATA line
-pub record EndIsMissing (start : Said) (lines : List (List ℕ)) (line : ℕ) (w : What) : Type 0 where
-  pub said : Said
-  pub good : AreGood start lines said
-  pub open_still : is_end said.section ≡ false
-  pub what_is : w ≡ what.NoEnd
-  pub number : line ≡ length lines + 1
-
--- the lines up to the ENDATA line say this, none of them breaks a rule, and nothing behind is read
-pub record Ends (start : Said) (lines : List (List ℕ)) (line : ℕ) (said : Said) : Type 0 where
-  pub taken : List (List ℕ)
-  pub after : List (List ℕ)
-  pub parts : lines ≡ taken ++ after
-  pub good : AreGood start taken said
-  pub is_done : is_end said.section ≡ true
-  pub number : line ≡ length taken
 
 -- what was said at the ENDATA line breaks a rule, and this is the first that it breaks
 pub record WholeBreaks (start : Said) (lines : List (List ℕ)) (line : ℕ) (w : What) : Type 0 where

@@ -1,10 +1,4 @@
-pub mod Said
-pub mod Lines
 pub mod Meaning
 pub mod Reading
 pub mod Views
-pub mod Coherence
-pub mod Sections
 pub mod Laws
-pub mod Named
-pub mod Sets

@@ -1,5 +1,5 @@
 -- The problem that was said.
-use Rattle.std.specs.Prelude.{ℕ, suc, ◌^◌, max, Bool, true, false, not, ◌&&◌, ◌||◌, ◌==◌, nat_le, if◌then◌else◌, List, [], ◌∷◌, map, filter, fold, Option, Some, None, is_some, option_map, Result, Ok, Err, ℤ, pos, negsuc, ◌+ℤ◌, ◌-ℤ◌, neg_ℤ, nat_abs, int_lt}
+use Rattle.std.specs.Prelude.{ℕ, suc, All, ◌^◌, max, Bool, true, false, not, ◌&&◌, ◌||◌, ◌==◌, nat_le, if◌then◌else◌, List, [], ◌∷◌, map, filter, fold, Option, Some, None, is_some, option_map, Result, Ok, Err, ℤ, pos, negsuc, ◌+ℤ◌, ◌-ℤ◌, neg_ℤ, nat_abs, int_lt}
 use Rattle.std.specs.List.{list_all}
 use Rattle.bl_num.specs.declared.Decimal.{Decimal}
 use Rattle.bl_num.specs.Decimals.{in_units}
@@ -8,21 +8,19 @@ use Rattle.bl_problem.specs.declared.problem.Column.{Column}
 use Rattle.bl_problem.specs.declared.problem.Row.{Row}
 use Rattle.bl_problem.specs.Program.{Program}
 use Rattle.bl_problem.specs.Rows.{coefficient_of}
-use Rattle.bl_mps.specs.declared.kind.What.{What}
-use Rattle.bl_mps.specs.declared.kind.What.TheVariants as what
-use Rattle.bl_mps.specs.declared.kind.Role.{Role}
-use Rattle.bl_mps.specs.declared.kind.Role.TheVariants.{Objective, Extra, AtMost, AtLeast, Equal}
+use Rattle.bl_cards.specs.declared.kind.What.{What}
+use Rattle.bl_cards.specs.declared.kind.What.TheVariants as what
+use Rattle.bl_cards.specs.declared.kind.Role.{Role}
+use Rattle.bl_cards.specs.declared.kind.Role.TheVariants.{Objective, Extra, AtMost, AtLeast, Equal}
 use Rattle.bl_mps.specs.declared.entries.Entry.{Entry}
-use Rattle.bl_mps.specs.declared.kind.Ends.{Ends}
+use Rattle.bl_mps.specs.declared.ends.Ends.{Ends}
 use Rattle.bl_mps.specs.declared.scale.RowEnds.{RowEnds}
 use Rattle.bl_mps.specs.declared.finish.ScaledObjective.{ScaledObjective}
-use Rattle.bl_mps.specs.declared.kind.Act.{Act}
-use Rattle.bl_mps.specs.declared.kind.Act.TheVariants as act
-use Rattle.bl_mps.specs.Said.{same, RowLine, Cell, Given, Card, Said, ◌>>=◌, refuse}
-use Rattle.bl_mps.specs.Lines.{is_objective, is_limited, has_objective}
-
-abbrev pub nothing_given : Decimal
-nothing_given = record { mantissa = pos 0; places = 0 }
+use Rattle.bl_cards.specs.declared.kind.Act.{Act}
+use Rattle.bl_cards.specs.declared.kind.Act.TheVariants as act
+use Rattle.bl_cards.specs.Said.{same, RowLine, Cell, Card, Said, ◌>>=◌, refuse}
+use Rattle.bl_cards.specs.Lines.{nothing_given, is_limited, has_objective, objective_in, given_for}
+use Rattle.bl_cards.specs.Coherence.{IsRead}
 
 -- ---- rows
 
@@ -39,11 +37,6 @@ entry_of c = record { column = c.column; number = c.number }
 abbrev pub entries_of : List Cell → List ℕ → List Entry
 entries_of cells row = map entry_of (cells_of cells row)
 
--- the number that a section gives for a row
-abbrev pub given_for : List Given → List ℕ → Option Decimal
-given_for [] row = None
-given_for (g ∷ given) row = if same row g.row then Some g.number else given_for given row
-
 abbrev pub or_zero : Option Decimal → Decimal
 or_zero None = nothing_given
 or_zero (Some d) = d
@@ -53,6 +46,12 @@ pub record RowSaid : Type 0 where
   pub entries : List Entry
   pub right : Decimal
   pub range : Option Decimal
+
+-- the numbers of a row were read
+pub record IsRowRead (r : RowSaid) : Type 0 where
+  pub entries : All (λ e. IsRead e.number) r.entries
+  pub right : IsRead r.right
+  pub range : IsRead (or_zero r.range)
 
 abbrev pub said_of : Said → List ℕ → RowSaid
 said_of s name =
@@ -119,10 +118,6 @@ abbrev pub rows_of : Said → List Row
 rows_of s = map (row_of s) (filter (λ line. is_limited line.role) s.rows)
 
 -- ---- the objective
-
-abbrev pub objective_in : List RowLine → List ℕ
-objective_in [] = []
-objective_in (r ∷ rows) = if is_objective r.role then r.name else objective_in rows
 
 -- its costs, and the negative of its constant
 abbrev pub objective_said : Said → RowSaid

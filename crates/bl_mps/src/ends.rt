@@ -1,13 +1,22 @@
 //! The ends of each column.
 ghost use Rattle.std.specs.Prelude.{◌≡◌, map, length, IfOk, replicate, None, Some, List, [], ◌∷◌, ◌++◌, pos};
-ghost use Rattle.bl_mps.specs.Said.{Card};
+ghost use Rattle.bl_cards.specs.Said.{Card};
 ghost use Rattle.bl_mps.specs.Meaning.{acted, ends_set, ends_or, unset, binary, lowered, raised, as_whole, set_ends};
-ghost use Rattle.bl_mps.specs.Views.{card_of};
+ghost use Rattle.bl_cards.specs.Views.{card_of};
 
-use crate::bounds::BoundCard;
-use crate::kind::{Act, Ends};
-use crate::names::Names;
+use bl_cards::{Act, BoundCard, Names};
 use std::alloc::{AllocError, Global};
+
+/// The ends of a column, as far as its cards have set them.
+#[derive(Clone, Copy, Debug, PartialEq, Eq)]
+pub struct Ends {
+    pub low: Option<i64>,
+    pub high: Option<i64>,
+    /// A card gave or took the low end: an upper bound that is negative then leaves it.
+    pub low_is_said: bool,
+    /// A card says that the column takes whole numbers.
+    pub is_whole: bool,
+}
 
 /// The ends that the cards of each column set, None where a column has none.
 pub fn column_ends(

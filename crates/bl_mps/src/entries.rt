@@ -1,13 +1,12 @@
 //! The numbers of each row.
 ghost use Rattle.std.specs.Prelude.{◌≡◌, ◌<◌, ℕ, map, length, IfOk, OnOk, List, [], ◌∷◌, ◌++◌, replicate, None, Some, if◌then◌else◌};
-ghost use Rattle.bl_mps.specs.Said.{Cell};
+ghost use Rattle.bl_cards.specs.Said.{Cell};
 ghost use Rattle.bl_num.specs.Exact.{at};
 ghost use Rattle.bl_problem.specs.Rows.{coefficient_of};
 ghost use Rattle.bl_mps.specs.Meaning.{entries_of, entry_of, is_zero};
-ghost use Rattle.bl_mps.specs.Views.{cell_of};
+ghost use Rattle.bl_cards.specs.Views.{cell_of};
 
-use crate::columns::RowCell;
-use crate::names::Names;
+use bl_cards::{Names, RowCell};
 use bl_mods::Items;
 use bl_num::Decimal;
 use bl_problem::Term;

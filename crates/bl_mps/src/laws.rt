@@ -1,6 +1,8 @@
 //! What the reading comes to, in other words.
 ghost use Rattle.bl_mps.specs.Laws.{IsOne, RangesWiden, ScaleIsLeast, TellsFirstFault, TellsMeaning};
 
+use bl_cards::laws::{files_say_what_their_lines_say, line_faults_are_first};
+
 /// Every file has a problem or a fault, and none has both.
 pub fn files_have_a_problem_or_a_fault()
     ensures { IsOne }
@@ -10,13 +12,18 @@ pub fn files_have_a_problem_or_a_fault()
 /// its line, or by the whole at the ENDATA line.
 pub fn faults_are_first()
     ensures { TellsFirstFault }
-{}
+{
+    line_faults_are_first();
+    files_say_what_their_lines_say();
+}
 
 /// A problem that is read is the meaning of what the sections say, each by its own data lines in turn, and no line up
 /// to the ENDATA line breaks a rule.
 pub fn problems_are_what_the_sections_say()
     ensures { TellsMeaning }
-{}
+{
+    files_say_what_their_lines_say();
+}
 
 /// A row with a range has two ends as far apart as the range's size, and its right side is the one that its kind and
 /// the range's sign say.

@@ -1,50 +1,45 @@
-//! Reads a problem from an MPS file.
+//! Reads a problem from an MPS file: what the lines of a file say (`bl_cards`) means a problem.
 //!
-//! `specs/Reading.antt` says what bytes mean: lines are words, each line adds to what was said or breaks a rule, and
-//! what was said at the ENDATA line means a problem.
+//! `specs/Meaning.antt` says which problem what was said means, or which rule the whole breaks at the ENDATA line: rows
+//! and objective in units of the least power of ten that makes their numbers whole, the ends of rows by kind and range,
+//! the ends of columns by their cards. `specs/Reading.antt` says what bytes mean: what their lines say, and what that
+//! means, or the first fault. `specs/Laws.antt` says what this comes to, in other words.
+//!
+//! `read` answers `Ok` with exactly the problem that the bytes mean, and `At` with exactly the first fault of the file
+//! and its line.
 #![tactic(auto)]
 
 ghost use Rattle.std.specs.Prelude.{◌+◌, ◌<◌, ◌^◌, length};
 ghost use Rattle.bl_mps.specs.Reading.{read_of};
-ghost use Rattle.bl_mps.specs.Views.{Reads};
+ghost use Rattle.bl_cards.specs.Views.{Reads};
 
-mod bounds;
-mod columns;
 mod ends;
 mod entries;
-mod fault;
 mod finish;
-mod given;
-mod kind;
 pub mod laws;
-mod names;
-mod number;
-mod reader;
-mod rows;
 mod scale;
-mod section;
 
+pub use bl_cards::{ModelFault, What};
+use bl_cards::{LineFault, Reader};
 use bl_problem::Problem;
-use fault::LineFault;
-pub use fault::ModelFault;
 use finish::finish;
-pub use kind::What;
-use reader::Reader;
 use std::alloc::Global;
 
 /// The problem that a file of fewer than 2^32 - 1 bytes means. `At` tells the first fault of the file and its line, and
 /// comes exactly where the file has one; `Memory` comes only for want of memory.
-#[tactic(auto, unfolding(crate::specs::Reading::read_of, crate::specs::Reading::said_in))]
+#[tactic(auto, unfolding(crate::specs::Reading::read_of, bl_cards::specs::Reading::said_in))]
 pub fn read(alloc: Global, bytes: &[u8]) -> Result<Problem, ModelFault>
     requires { length bytes.now + 1 < 2 ^ 32 }
     ensures { Reads result (read_of bytes.now) }
 {
-    let mut reader = Reader::new(alloc);
-    match reader.file(alloc, bytes) {
-        Ok(last) => match finish(alloc, &reader) {
+    match Reader::new(alloc).file(alloc, bytes) {
+        Ok(whole) => match finish(alloc, &whole.said) {
             Ok(problem) => Ok(problem),
             Err(LineFault::Memory) => Err(ModelFault::Memory),
-            Err(LineFault::Broken(what)) => Err(ModelFault::At { line: last, what }),
+            Err(LineFault::Broken(what)) => Err(ModelFault::At {
+                line: whole.last,
+                what,
+            }),
         },
         Err(fault) => Err(fault),
     }

@@ -2,14 +2,13 @@
 ghost use Rattle.std.specs.Prelude.{◌≡◌, ◌≤◌, ◌<◌, ◌^◌, ◌*◌, All, map, true, if◌then◌else◌, Some, None, nat_abs, neg_ℤ, IfSome};
 ghost use Rattle.std.specs.List.{list_all};
 ghost use Rattle.bl_num.specs.Decimals.{in_units};
-ghost use Rattle.bl_mps.specs.Lines.{is_limited};
-ghost use Rattle.bl_mps.specs.Meaning.{RowSaid, places_of, or_zero, term_of, terms_of, range_in, low_end, high_end, ends_of, size, is_within, term_within, end_within, limited};
-ghost use Rattle.bl_mps.specs.Coherence.{IsRowRead};
-ghost use Rattle.bl_mps.specs.Views.{Gives, row_said, within, ends_within};
+ghost use Rattle.bl_cards.specs.Lines.{is_limited};
+ghost use Rattle.bl_mps.specs.Meaning.{RowSaid, places_of, or_zero, term_of, terms_of, range_in, low_end, high_end, ends_of, size, is_within, term_within, end_within, limited, IsRowRead};
+ghost use Rattle.bl_cards.specs.Views.{Gives};
+ghost use Rattle.bl_mps.specs.Views.{row_said, within, ends_within};
 
 use crate::entries::Entry;
-use crate::fault::LineFault;
-use crate::kind::{Role, What};
+use bl_cards::{LineFault, Role, What};
 use bl_mods::Items;
 use bl_num::{Decimal, rescale};
 use bl_problem::Term;

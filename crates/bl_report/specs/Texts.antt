@@ -4,9 +4,9 @@ use Rattle.std.specs.Fmt.{signed_decimal}
 use Rattle.bl_num.specs.Texts.{text_of}
 use Rattle.bl_problem.specs.declared.problem.Column.{Column}
 use Rattle.bl_problem.specs.Program.{Program}
-use Rattle.bl_mps.specs.declared.kind.What.{What}
-use Rattle.bl_mps.specs.declared.kind.What.TheVariants.{Section, Words, Number, TooWide, UnknownRow, UnknownColumn, Twice, NotWhole, Unbounded, FractionBound, TooMany, NoObjective, Marker, NoEnd}
-use Rattle.bl_mps.specs.Reading.{Fault}
+use Rattle.bl_cards.specs.declared.kind.What.{What}
+use Rattle.bl_cards.specs.declared.kind.What.TheVariants.{Section, Words, Number, TooWide, UnknownRow, UnknownColumn, Twice, NotWhole, Unbounded, FractionBound, TooMany, NoObjective, Marker, NoEnd}
+use Rattle.bl_cards.specs.Reading.{Fault}
 use Rattle.bl_journal.specs.States.{Found}
 use Rattle.bl_journal.specs.Results.{Verdict, optimal, infeasible, bounded}
 

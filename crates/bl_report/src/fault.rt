@@ -3,7 +3,7 @@ ghost use Rattle.std.specs.Prelude.{◌≡◌, IfOk};
 ghost use Rattle.bl_report.specs.Texts.{model_line, what_name};
 
 use crate::answer::push_number;
-use bl_mps::What;
+use bl_cards::What;
 use std::alloc::{AllocError, Global};
 
 /// The line that tells a file's first fault: `fault model line L WHAT`. `AllocError` where there is no memory.

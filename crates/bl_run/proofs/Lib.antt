@@ -1,3 +1,5 @@
+pub mod Nothing
 pub mod Putting
+pub mod Tidying
 pub mod Turns
 pub mod Answered

@@ -4,15 +4,12 @@ use Rattle.std.specs.Prelude.{ℤ, ◌≤ℤ◌, ◌<ℤ◌, reverse, int_le, If
 use Rattle.std.proofs.lemmas.Int.{ints, clamps}
 use Rattle.std.proofs.lemmas.Bool.{and_parts}
 use Rattle.std.proofs.lemmas.List.{reverse-append}
-use Rattle.bl_mods.specs.Mods.{kept_from}
 use Rattle.bl_num.specs.Exact.{at}
 use Rattle.bl_problem.specs.Program.{Program}
 use Rattle.bl_problem.specs.Points.{InBox, IsFeasible, value_of, trivial_bound_of}
 use Rattle.bl_problem.specs.declared.cut.Cut.{Cut}
 use Rattle.bl_desc.specs.declared.desc.Desc.{Desc}
-use Rattle.bl_desc.specs.declared.desc.Status.{Status}
-use Rattle.bl_desc.specs.declared.desc.Piece.TheVariants.{Explicit}
-use Rattle.bl_desc.specs.Changes.{changed}
+use Rattle.bl_desc.specs.declared.desc.Form.{Form}
 use Rattle.bl_journal.specs.declared.entry.Entry.{Entry}
 use Rattle.bl_journal.specs.declared.entry.Entry.TheVariants.{Put}
 use Rattle.bl_journal.specs.declared.entry.Step.TheVariants.{Shut as ShutStep, Split as SplitStep}
@@ -21,28 +18,15 @@ use Rattle.bl_journal.specs.declared.outcome.Next.{Next}
 use Rattle.bl_journal.specs.declared.outcome.Next.TheVariants.{Shut, Split}
 use Rattle.bl_journal.specs.declared.settings.Settings.{Settings}
 use Rattle.bl_journal.specs.Soundness.{IsSound, IsCommonFor, cutoff_with}
-use Rattle.bl_journal.specs.Births.{nodes_of}
+use Rattle.bl_journal.specs.Births.{nodes_of, node_at}
 use Rattle.bl_journal.specs.Descriptions.{full_of, left_child, right_child}
 use Rattle.bl_journal.specs.States.{has_point, cutoff_of}
-use Rattle.bl_journal.specs.Pieces.{stored_of}
+use Rattle.bl_journal.specs.Pieces.{stored_of, form_at_birth, piece_below}
 use Rattle.bl_journal.specs.Legality.{MayPut}
-use Rattle.bl_journal.specs.Laws.{LeasesAreWorkable, ChildrenFollow, SpanOneIsExplicit}
+use Rattle.bl_journal.specs.Laws.{LeasesAreWorkable, ChildrenFollow, NewbornsAreStored}
 use Rattle.bl_tree.specs.Views.{TreeView, LeaseView, past_of, extended, IsLegalTree, IsLeaseOf, IsPutFor, PiecesStored}
+use Rattle.bl_run.proofs.Nothing.{relisted_none, unchanged}
 use Rattle.bl_run.specs.Work.{nothing, IsBelow, IsWork, IsHalved, is_halved, is_tested}
-
--- the change of nothing changes nothing
-kept_none : {X : Type 0} (i : ℕ) (xs : List X) → kept_from i [] xs ≡ xs
-kept_none i [] = refl
-kept_none i (x ∷ xs) = ap (λ l. x ∷ l) (kept_none (i + 1) xs)
-
-relisted_none : {X : Type 0} (xs : List X) → kept_from 0 [] xs ++ [] ≡ xs
-relisted_none xs = append-nil (kept_from 0 [] xs) ∙ kept_none 0 xs
-
-pub unchanged : (d : Desc Cut) → changed nothing d ≡ d
-unchanged d =
-    let with_cuts : List Cut → Desc Cut = λ cuts. record d { cuts = cuts; cut_status = kept_from 0 [] d.cut_status ++ [] } in
-    let with_status : List Status → Desc Cut = λ status. record d { cut_status = status } in
-    ap with_cuts (relisted_none d.cuts) ∙ ap with_status (relisted_none d.cut_status)
 
 -- the lows lie in a box with a point
 pub lows_inside : (lows highs : List ℤ) → length highs ≡ length lows → has_point lows highs ≡ true → InBox lows highs lows
@@ -94,9 +78,9 @@ pub record Workable (p : Program) (d : Desc Cut) : Type 0 where
   pub ids : AllPairs (λ (a b : Cut). a.id ≢ b.id) d.cuts
   pub few : length d.cuts ≤ 200
 
-halved_sound : (p : Program) (d : Desc Cut) (cutoff : Option ℤ) (low : ℤ) (o : Outcome) → Workable p d → IsBelow p d low → (h : IsHalved d low o)
+halved_sound : (p : Program) (d : Desc Cut) (form : Form) (cutoff : Option ℤ) (low : ℤ) (o : Outcome) → Workable p d → IsBelow p d low → (h : IsHalved d form low o)
     → IsSound p d cutoff None low (SplitStep nothing h.column h.at_most)
-halved_sound p d cutoff low o w below h =
+halved_sound p d form cutoff low o w below h =
     record {
       found_ok = tt;
       low_ok = λ x q. below x q.in_box;
@@ -141,12 +125,17 @@ none_sound p d cutoff low below one none =
 reverse-push : (history : List Entry) (e : Entry) → reverse (history ++ e ∷ []) ≡ e ∷ reverse history
 reverse-push history e = reverse-append history (e ∷ [])
 
--- with span 1 the halves are what is stored of the children
-halves_stored : ChildrenFollow → SpanOneIsExplicit → (t : TreeView) (id : ℕ) (low : ℤ) (column : ℕ) (at_most : ℤ) → IsLegalTree t → t.settings.span ≡ 1
+-- the form of the children of a node
+abbrev pub form_under : TreeView → ℕ → Form
+form_under t id = form_at_birth t.settings.span ((node_at t.problem (past_of t) id).depth + 1)
+
+-- the halves are what is stored of the children
+halves_stored : ChildrenFollow → NewbornsAreStored → (t : TreeView) (id : ℕ) (low : ℤ) (column : ℕ) (at_most : ℤ) → IsLegalTree t
     → MayPut t.problem (past_of t) 0 id None low (SplitStep nothing column at_most)
     → PiecesStored (extended t (Put 0 id None low (SplitStep nothing column at_most)))
-    (Split nothing column at_most (Explicit (left_child (full_of t.problem (past_of t) id) column at_most)) (Explicit (right_child (full_of t.problem (past_of t) id) column at_most)))
-halves_stored children explicit t id low column at_most legal span may =
+    (Split nothing column at_most (piece_below (full_of t.problem (past_of t) id) (form_under t id) (left_child (full_of t.problem (past_of t) id) column at_most))
+    (piece_below (full_of t.problem (past_of t) id) (form_under t id) (right_child (full_of t.problem (past_of t) id) column at_most)))
+halves_stored children stored t id low column at_most legal may =
     let p : Program = t.problem in
     let s : Settings = t.settings in
     let past : List Entry = past_of t in
@@ -161,10 +150,10 @@ halves_stored children explicit t id low column at_most legal span may =
     children.left p s t.history 0 id None low nothing column at_most legal may ∙ ap (λ (x : Desc Cut). left_child x column at_most) (unchanged d) in
     let right : full_of p (e ∷ past) (length (nodes_of p past) + 1) ≡ right_child d column at_most =
     children.right p s t.history 0 id None low nothing column at_most legal may ∙ ap (λ (x : Desc Cut). right_child x column at_most) (unchanged d) in
-    let l : stored_of p s (e ∷ past) (n - 2) ≡ Explicit (left_child d column at_most) =
-    explicit p s (e ∷ past) (n - 2) span ∙ (ap (λ k. Explicit (full_of p (e ∷ past) k)) first ∙ ap (λ (x : Desc Cut). Explicit x) left) in
-    let r : stored_of p s (e ∷ past) (n - 1) ≡ Explicit (right_child d column at_most) =
-    explicit p s (e ∷ past) (n - 1) span ∙ (ap (λ k. Explicit (full_of p (e ∷ past) k)) second ∙ ap (λ (x : Desc Cut). Explicit x) right) in
+    let l : stored_of p s (e ∷ past) (n - 2) ≡ piece_below d (form_under t id) (left_child d column at_most) =
+    ap (stored_of p s (e ∷ past)) first ∙ (stored.left p s t.history 0 id None low nothing column at_most legal may ∙ ap (piece_below d (form_under t id)) left) in
+    let r : stored_of p s (e ∷ past) (n - 1) ≡ piece_below d (form_under t id) (right_child d column at_most) =
+    ap (stored_of p s (e ∷ past)) second ∙ (stored.right p s t.history 0 id None low nothing column at_most legal may ∙ ap (piece_below d (form_under t id)) right) in
     (sym (ap (λ h. stored_of p s h (length (nodes_of p h) - 2)) turned ∙ l), sym (ap (λ h. stored_of p s h (length (nodes_of p h) - 1)) turned ∙ r))
 
 outcome_is : (o : Outcome) (found : Option (List ℤ)) (low : ℤ) (next : Next) → o.found ≡ found → o.low ≡ low → o.next ≡ next → (record { found = found; low = low; next = next }) ≡ o
@@ -172,9 +161,9 @@ outcome_is o found low next f l n =
     let mk : Option (List ℤ) → ℤ → Next → Outcome = λ a b c. record { found = a; low = b; next = c } in
     sym (ap (λ a. mk a o.low o.next) f ∙ (ap (λ b. mk found b o.next) l ∙ ap (λ c. mk found low c) n))
 
-pub put_fits : LeasesAreWorkable → ChildrenFollow → SpanOneIsExplicit → (t : TreeView) (lease : LeaseView) (o : Outcome) → IsLegalTree t → t.settings.span ≡ 1 → IsLeaseOf t 0 lease
-    → IsBelow t.problem (full_of t.problem (past_of t) lease.id) o.low → IsWork t.problem (full_of t.problem (past_of t) lease.id) o → IsPutFor t 0 lease o
-put_fits workable children explicit t lease o legal span leased below work = by_work work
+pub put_fits : LeasesAreWorkable → ChildrenFollow → NewbornsAreStored → (t : TreeView) (lease : LeaseView) (o : Outcome) → IsLegalTree t → IsLeaseOf t 0 lease
+    → IsBelow t.problem (full_of t.problem (past_of t) lease.id) o.low → IsWork t.problem (full_of t.problem (past_of t) lease.id) (form_under t lease.id) o → IsPutFor t 0 lease o
+put_fits workable children stored t lease o legal leased below work = by_work work
   where
     d : Desc Cut
     d = full_of t.problem (past_of t) lease.id
@@ -195,19 +184,19 @@ put_fits workable children explicit t lease o legal span leased below work = by_
       pieces = tt;
     })
 
-    by_work : IsWork t.problem (full_of t.problem (past_of t) lease.id) o → IsPutFor t 0 lease o
+    by_work : IsWork t.problem (full_of t.problem (past_of t) lease.id) (form_under t lease.id) o → IsPutFor t 0 lease o
     by_work (is_halved h) =
         let low : ℤ = trivial_bound_of t.problem d.lows d.highs in
         let less : IsBelow t.problem d low = subst (IsBelow t.problem d) h.low_is below in
         let may : MayPut t.problem (past_of t) 0 lease.id None low (SplitStep nothing h.column h.at_most) =
         record {
           is_out = leased.is_out;
-          sound = halved_sound t.problem d (cutoff_of t.problem (past_of t) lease.id) low o w less h;
+          sound = halved_sound t.problem d (form_under t lease.id) (cutoff_of t.problem (past_of t) lease.id) low o w less h;
           few_cuts = omega arith;
           new_ids = λ k e i. absurd (omega (arith, i));
         } in
         subst (λ (x : Outcome). IsPutFor t 0 lease x) (outcome_is o None low _ h.found h.low_is h.next)
-        (record { leased = leased; allowed = may; pieces = halves_stored children explicit t lease.id low h.column h.at_most legal span may })
+        (record { leased = leased; allowed = may; pieces = halves_stored children stored t lease.id low h.column h.at_most legal may })
     by_work (is_tested one h) =
         let low : ℤ = trivial_bound_of t.problem d.lows d.highs in
         let less : IsBelow t.problem d low = subst (IsBelow t.problem d) h.low_is below in

@@ -7,7 +7,8 @@ use Rattle.std.specs.Io.KnownBytes.{Appends}
 use Rattle.bl_io.specs.Streams.{IsWhole, Takes, AppendsPrefix}
 use Rattle.bl_io.specs.Causes.{Rose}
 use Rattle.bl_problem.specs.Program.{Program}
-use Rattle.bl_mps.specs.Reading.{read_of, Fault}
+use Rattle.bl_cards.specs.Reading.{Fault}
+use Rattle.bl_mps.specs.Reading.{read_of}
 use Rattle.bl_journal.specs.declared.entry.Entry.{Entry}
 use Rattle.bl_journal.specs.Kept.{Kept}
 use Rattle.bl_journal.specs.Results.{answer_of, IsTrueFor}

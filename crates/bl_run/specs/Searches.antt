@@ -1,5 +1,5 @@
 -- The search by one seat.
-use Rattle.std.specs.Prelude.{◌≡◌, ℕ, ◌+◌, ◌*◌, ◌≤◌, List, All, Bool, true, false, reverse}
+use Rattle.std.specs.Prelude.{◌≡◌, ℕ, ◌+◌, ◌*◌, ◌%◌, ◌≤◌, List, ◌++◌, All, Bool, true, false, reverse, Option, Some, None, IfSome}
 use Rattle.bl_problem.specs.Program.{Program}
 use Rattle.bl_problem.specs.Points.{own_lows, own_highs, points_in}
 use Rattle.bl_journal.specs.declared.entry.Entry.{Entry}
@@ -10,34 +10,79 @@ use Rattle.bl_journal.specs.States.{state_of, used_of}
 use Rattle.bl_journal.specs.Replies.{Reply, is_out, take_reply, done as says_done, spent as says_spent}
 use Rattle.bl_journal.specs.Legality.{IsLegal, seat_of}
 use Rattle.bl_journal.specs.Results.{HasNoLive, IsSpent, IsFinal, answer_of}
+use Rattle.bl_journal.specs.Freeing.{HasNothingToFree}
+use Rattle.bl_journal.specs.Tidying.{IsUpkeepBy, IsSettled, WasSettled, IsTidied, splits_of}
+use Rattle.bl_tree.specs.declared.answer.Born.{Born}
 use Rattle.bl_tree.specs.Views.{TreeView, LeaseView, past_of, extended, put_entry}
+use Rattle.bl_tree.specs.Answers.{born_for}
 use Rattle.bl_run.specs.declared.search.Turn.{Turn}
 use Rattle.bl_run.specs.declared.search.Turn.TheVariants.{Worked, Done, Spent}
 use Rattle.bl_run.specs.declared.search.EndedSearch.{EndedSearch}
 
--- at most so many nodes, each stored whole, best first
+-- at most so many nodes, those of each eighth depth stored whole, best first
 abbrev pub settings_of : ℕ → Settings
-settings_of nodes = record { nodes = nodes; span = 1; order = Best }
+settings_of nodes = record { nodes = nodes; span = 8; order = Best }
 
--- no node is out, and each entry is by seat 0
+-- no node is out, none may be freed, and each entry is by seat 0, which has tidied
 pub record IsBetweenTurns (t : TreeView) : Type 0 where
   pub none_out : (id : ℕ) → is_out (state_of (past_of t) id) ≡ false
-  pub seats : All (λ e. seat_of e ≡ 0) t.history
+  pub nothing_to_free : HasNothingToFree t.problem t.settings (past_of t)
+  pub tidied : IsTidied t.problem t.settings 0 (past_of t)
+  pub seats : All (λ e. seat_of e ≡ 0) (past_of t)
 
--- the outcome of some work was put in
-pub record PutsIn (old : TreeView) (lease : LeaseView) (new : TreeView) : Type 0 where
+-- the outcome of some work was put in, and these nodes were born
+pub record PutsIn (old : TreeView) (lease : LeaseView) (born : Option Born) (new : TreeView) : Type 0 where
   pub outcome : Outcome
   pub is : new ≡ extended old (put_entry 0 lease.id outcome)
+  pub born_is : born ≡ born_for old outcome.next
 
--- one more node was used
-pub record HasWorked (old new : TreeView) : Type 0 where
+-- seat 0 encoded and freed, and did nothing else. The last entry comes first
+pub record IsKeptUp (old new : TreeView) : Type 0 where
+  pub problem : new.problem ≡ old.problem
+  pub settings : new.settings ≡ old.settings
+  pub entries : List Entry
+  pub past : past_of new ≡ entries ++ past_of old
+  pub upkeep : All (IsUpkeepBy 0) entries
+
+-- the node is explicit or freed now
+pub record IsStoredWhole (old : TreeView) (id : ℕ) (new : TreeView) : Type 0 where
+  pub kept_up : IsKeptUp old new
+  pub settled : IsSettled new.problem new.settings (past_of new) id
+
+-- both children were explicit or freed at some time since
+pub record AreStoredWhole (old : TreeView) (born : Born) (new : TreeView) : Type 0 where
+  pub kept_up : IsKeptUp old new
+  pub left : WasSettled old.problem old.settings 0 kept_up.entries (past_of old) born.left
+  pub right : WasSettled old.problem old.settings 0 kept_up.entries (past_of old) born.right
+
+-- no node may be freed any more
+pub record IsFreed (old new : TreeView) : Type 0 where
+  pub kept_up : IsKeptUp old new
+  pub nothing_to_free : HasNothingToFree new.problem new.settings (past_of new)
+
+-- how many puts have split, once these nodes were born
+abbrev pub count_with : ℕ → Option Born → ℕ
+count_with count None = count
+count_with count (Some born) = count + 1
+
+-- no node may be freed any more, and after each fourth split both children were explicit or freed at some time
+pub record HasTidied (old : TreeView) (born : Option Born) (count : ℕ) (new : TreeView) : Type 0 where
+  pub kept_up : IsKeptUp old new
+  pub nothing_to_free : HasNothingToFree new.problem new.settings (past_of new)
+  pub left : IfSome born (λ b. count % 4 ≡ 0 → WasSettled old.problem old.settings 0 kept_up.entries (past_of old) b.left)
+  pub right : IfSome born (λ b. count % 4 ≡ 0 → WasSettled old.problem old.settings 0 kept_up.entries (past_of old) b.right)
+
+-- one more node was used, and so many puts have split by now
+pub record HasWorked (old : TreeView) (count : ℕ) (new : TreeView) : Type 0 where
   pub between : IsBetweenTurns new
   pub problem : new.problem ≡ old.problem
   pub settings : new.settings ≡ old.settings
   pub used : used_of (past_of new) ≡ used_of (past_of old) + 1
+  pub count_is : count ≡ splits_of 0 (past_of new)
+  pub count_grew : count ≤ splits_of 0 (past_of old) + 1
 
 abbrev pub EndsTurn : TreeView → Turn → TreeView → Type 0
-EndsTurn old Worked new = HasWorked old new
+EndsTurn old (Worked count) new = HasWorked old count new
 EndsTurn old Done new = (new ≡ old) × (take_reply old.problem old.settings (past_of old) ≡ says_done)
 EndsTurn old Spent new = (new ≡ old) × (take_reply old.problem old.settings (past_of old) ≡ says_spent)
 
@@ -60,11 +105,13 @@ abbrev pub last_reply : Bool → Reply
 last_reply true = says_spent
 last_reply false = says_done
 
--- the history of a search by seat 0 that has ended
+-- the history of a search by seat 0 that has ended: no node is out, none may be freed, and the seat has tidied
 pub record IsEndedHistory (p : Program) (s : Settings) (limited : Bool) (history : List Entry) : Type 0 where
   pub legal : IsLegal p s history
   pub none_out : (id : ℕ) → is_out (state_of (reverse history) id) ≡ false
   pub seats : All (λ e. seat_of e ≡ 0) history
+  pub nothing_to_free : HasNothingToFree p s (reverse history)
+  pub tidied : IsTidied p s 0 (reverse history)
   pub ends : EndsBy limited p s (reverse history)
 
 pub record IsSearched (p : Program) (nodes : ℕ) (search : EndedSearch) : Type 0 where

@@ -1,27 +1,32 @@
 -- What the work on a node hands in.
-use Rattle.std.specs.Prelude.{◌≡◌, ◌⊎◌, ℕ, ◌<◌, ◌≤◌, ◌^◌, ℤ, ◌≤ℤ◌, ◌<ℤ◌, List, [], length, All, Option, Some, None, true}
+use Rattle.std.specs.Prelude.{◌≡◌, ◌≢◌, ◌⊎◌, ℕ, ◌<◌, ◌≤◌, ◌^◌, ℤ, ◌≤ℤ◌, ◌<ℤ◌, List, [], length, All, AllPairs, Option, Some, None, true}
 use Rattle.bl_num.specs.Exact.{at}
 use Rattle.bl_problem.specs.Sums.{IsWithin}
 use Rattle.bl_problem.specs.Program.{Program}
 use Rattle.bl_problem.specs.Points.{IsFeasible, InBox, value_of, trivial_bound_of}
 use Rattle.bl_problem.specs.declared.cut.Cut.{Cut}
 use Rattle.bl_desc.specs.declared.desc.Desc.{Desc}
-use Rattle.bl_desc.specs.declared.desc.Piece.TheVariants.{Explicit}
+use Rattle.bl_desc.specs.declared.desc.Form.{Form}
 use Rattle.bl_desc.specs.declared.change.Change.{Change}
+use Rattle.bl_desc.specs.Changes.{IsWhole}
 use Rattle.bl_journal.specs.declared.outcome.Outcome.{Outcome}
 use Rattle.bl_journal.specs.declared.outcome.Next.TheVariants.{Shut, Split}
 use Rattle.bl_journal.specs.Descriptions.{left_child, right_child}
+use Rattle.bl_journal.specs.Pieces.{piece_below}
 use Rattle.bl_journal.specs.States.{has_point}
 
 abbrev pub nothing : Change Cut
 nothing = record { lows = []; highs = []; cuts = record { dropped = []; added = [] }; columns = []; rows = []; fresh = [] }
 
--- a box with a point, as near as the limits say
+-- a whole description within the limits, whose box has a point
 pub record IsHalvable (d : Desc Cut) : Type 0 where
-  pub highs : length d.highs ≡ length d.lows
+  pub whole : IsWhole d
   pub low_near : All (IsWithin (10 ^ 9)) d.lows
   pub high_near : All (IsWithin (10 ^ 9)) d.highs
   pub few : length d.lows ≤ 1000
+  pub few_rows : length d.row_status ≤ 1000
+  pub few_cuts : length d.cuts ≤ 200
+  pub ids : AllPairs (λ a b. a.id ≢ b.id) d.cuts
   pub point : has_point d.lows d.highs ≡ true
 
 -- a column that has more than one value, or none where no column has
@@ -29,8 +34,17 @@ abbrev pub IsWidest : List ℤ → List ℤ → Option ℕ → Type 0
 IsWidest lows highs (Some j) = (j < length lows) × (at lows j <ℤ at highs j)
 IsWidest lows highs None = (j : ℕ) → j < length lows → at highs j ≤ℤ at lows j
 
--- the box is halved at a number between a column's low and its high
-pub record IsHalved (d : Desc Cut) (low : ℤ) (o : Outcome) : Type 0 where
+-- the same cuts and statuses with a box of as many columns
+pub record HasOtherBox (d half : Desc Cut) : Type 0 where
+  pub lows : length half.lows ≡ length d.lows
+  pub highs : length half.highs ≡ length d.highs
+  pub cuts : half.cuts ≡ d.cuts
+  pub columns : half.column_status ≡ d.column_status
+  pub rows : half.row_status ≡ d.row_status
+  pub cut_status : half.cut_status ≡ d.cut_status
+
+-- the box is halved at a number between a column's low and its high, and the halves have this form
+pub record IsHalved (d : Desc Cut) (form : Form) (low : ℤ) (o : Outcome) : Type 0 where
   pub column : ℕ
   pub at_most : ℤ
   pub column_in : column < length d.lows
@@ -38,7 +52,7 @@ pub record IsHalved (d : Desc Cut) (low : ℤ) (o : Outcome) : Type 0 where
   pub below_high : at_most <ℤ at d.highs column
   pub found : o.found ≡ None
   pub low_is : o.low ≡ low
-  pub next : o.next ≡ Split nothing column at_most (Explicit (left_child d column at_most)) (Explicit (right_child d column at_most))
+  pub next : o.next ≡ Split nothing column at_most (piece_below d form (left_child d column at_most)) (piece_below d form (right_child d column at_most))
 
 -- the point of the lows was found where it is feasible, and the node is shut
 pub record IsTested (p : Program) (d : Desc Cut) (low : ℤ) (o : Outcome) : Type 0 where
@@ -47,9 +61,9 @@ pub record IsTested (p : Program) (d : Desc Cut) (low : ℤ) (o : Outcome) : Typ
   pub next : o.next ≡ Shut
 
 -- the box was halved, or its one point was tested
-pub data IsWork (p : Program) (d : Desc Cut) (o : Outcome) : Type 0 where
-  is_halved : IsHalved d (trivial_bound_of p d.lows d.highs) o → IsWork p d o
-  is_tested : ((j : ℕ) → j < length d.lows → at d.highs j ≤ℤ at d.lows j) → IsTested p d (trivial_bound_of p d.lows d.highs) o → IsWork p d o
+pub data IsWork (p : Program) (d : Desc Cut) (form : Form) (o : Outcome) : Type 0 where
+  is_halved : IsHalved d form (trivial_bound_of p d.lows d.highs) o → IsWork p d form o
+  is_tested : ((j : ℕ) → j < length d.lows → at d.highs j ≤ℤ at d.lows j) → IsTested p d (trivial_bound_of p d.lows d.highs) o → IsWork p d form o
 
 -- each point of the box has at least this value
 abbrev pub IsBelow : Program → Desc Cut → ℤ → Type 0

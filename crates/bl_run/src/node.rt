@@ -3,10 +3,11 @@ ghost use Rattle.std.specs.Prelude.{◌≡◌, ◌<◌, ◌≤◌, ◌^◌, ◌�
 ghost use Rattle.bl_num.specs.Exact.{at};
 ghost use Rattle.bl_problem.specs.Sums.{IsWithin};
 ghost use Rattle.bl_problem.specs.Points.{trivial_bound_of};
-ghost use Rattle.bl_run.specs.Work.{IsWork, IsHalved, IsTested, IsHalvable, IsWidest, IsBelow, nothing};
+ghost use Rattle.bl_run.specs.Work.{IsWork, IsHalved, IsTested, IsHalvable, HasOtherBox, IsWidest, IsBelow, nothing};
 ghost use Rattle.bl_journal.specs.Descriptions.{left_child, right_child};
+ghost use Rattle.bl_journal.specs.Pieces.{piece_below};
 
-use bl_desc::{Change, Desc, Piece};
+use bl_desc::{Change, Desc, Form, Piece, between};
 use bl_journal::{Next, Outcome};
 use bl_mods::{FieldMods, ListMods, Shared};
 use bl_problem::{Cut, Problem};
@@ -95,18 +96,44 @@ fn right_half(desc: &Desc<Cut>, column: usize, at: i64) -> Result<Desc<Cut>, All
     Ok(half)
 }
 
+// A half in a form: itself, or as the change that makes it of the description.
+fn piece_of(
+    alloc: Global,
+    desc: &Desc<Cut>,
+    form: Form,
+    half: Desc<Cut>,
+) -> Result<Piece<Cut>, AllocError>
+    requires halvable { IsHalvable desc.now }
+    requires other { HasOtherBox desc.now half }
+    ensures { IfOk result (λ piece. piece ≡ piece_below desc.now form half) }
+{
+    match form {
+        Form::Explicit => Ok(Piece::Explicit(Shared::new(alloc, half)?)),
+        Form::Relative => {
+            let change = between(alloc, desc, &half)?;
+            Ok(Piece::Relative(Shared::new(alloc, change)?))
+        }
+    }
+}
+
 // The outcome that halves the box at a column.
-fn halve(alloc: Global, desc: &Desc<Cut>, low: i128, column: usize) -> Result<Outcome, AllocError>
+fn halve(
+    alloc: Global,
+    desc: &Desc<Cut>,
+    form: Form,
+    low: i128,
+    column: usize,
+) -> Result<Outcome, AllocError>
     requires halvable { IsHalvable desc.now }
     requires column { column < length desc.now.lows }
     requires wide { at desc.now.lows column <ℤ at desc.now.highs column }
-    ensures { IfOk result (λ outcome. IsHalved desc.now low outcome) }
+    ensures { IfOk result (λ outcome. IsHalved desc.now form low outcome) }
 {
     let lows = desc.lows.as_slice();
     let highs = desc.highs.as_slice();
     let at = middle(lows[column], highs[column]);
-    let left = Shared::new(alloc, left_half(desc, column, at)?)?;
-    let right = Shared::new(alloc, right_half(desc, column, at)?)?;
+    let left = piece_of(alloc, desc, form, left_half(desc, column, at)?)?;
+    let right = piece_of(alloc, desc, form, right_half(desc, column, at)?)?;
     let common = Shared::new(alloc, no_change(alloc))?;
     Ok(Outcome {
         found: None,
@@ -115,8 +142,8 @@ fn halve(alloc: Global, desc: &Desc<Cut>, low: i128, column: usize) -> Result<Ou
             common,
             column: column as u32,
             at,
-            left: Piece::Explicit(left),
-            right: Piece::Explicit(right),
+            left,
+            right,
         },
     })
 }
@@ -137,18 +164,23 @@ fn test(problem: &Problem, desc: &Desc<Cut>, low: i128) -> Result<Outcome, Alloc
     })
 }
 
-/// The outcome of the work on a node with this description. `AllocError` where there is no memory.
-pub fn work(alloc: Global, problem: &Problem, desc: &Desc<Cut>) -> Result<Outcome, AllocError>
+/// The outcome of the work on a node with this description, whose children are born in this form. `AllocError` where there is no memory.
+pub fn work(
+    alloc: Global,
+    problem: &Problem,
+    desc: &Desc<Cut>,
+    form: Form,
+) -> Result<Outcome, AllocError>
     requires halvable { IsHalvable desc.now }
     requires columns { length desc.now.lows ≡ length problem.now.columns }
-    ensures work { IfOk result (λ outcome. IsWork problem.now desc.now outcome) }
+    ensures work { IfOk result (λ outcome. IsWork problem.now desc.now form outcome) }
     ensures below { IfOk result (λ outcome. IsBelow problem.now desc.now outcome.low) }
 {
     let lows = desc.lows.as_slice();
     let highs = desc.highs.as_slice();
     let low = problem.trivial_bound(lows, highs);
     match widest(lows, highs) {
-        Some(column) => halve(alloc, desc, low, column),
+        Some(column) => halve(alloc, desc, form, low, column),
         None => test(problem, desc, low),
     }
 }

@@ -34,7 +34,7 @@ pub fn run_one<S: Source, K: Sink>(
     source: &mut S,
     sink: &mut K,
 ) -> Ended
-    // 0: the search has ended with no live node, the written bytes are its final answer, and nothing failed.
+    // 0: the search has ended with no live node, the written bytes are its final answer, and nothing failed. Here and at 1 and 5 no node may be freed, and seat 0 has stored its nodes anew in time.
     ensures decided { result.status ≡ 0 → WritesAnswer words.now false result.journal (S.left source.old) (S.left source.new) (K.kept sink.old) (K.kept sink.new) }
     // 1: the budget is spent and a live node waits; the written bytes are the bound and the best point found, and nothing failed.
     ensures limited { result.status ≡ 1 → WritesAnswer words.now true result.journal (S.left source.old) (S.left source.new) (K.kept sink.old) (K.kept sink.new) }

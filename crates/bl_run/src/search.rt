@@ -1,47 +1,71 @@
-//! The search: seat 0 takes a node, works on it and puts it back, until no node is live or the budget is spent.
-ghost use Rattle.std.specs.Prelude.{◌≡◌, ◌≤◌, IfOk, OnOk};
+//! The search: seat 0 takes a node, works on it, puts it back and tidies up, until no node is live or the budget is spent.
+ghost use Rattle.std.specs.Prelude.{◌≡◌, ◌≤◌, ◌+◌, IfOk, OnOk, IfSome};
 ghost use Rattle.bl_tree.specs.Views.{IsLeaseOf, past_of};
-ghost use Rattle.bl_run.specs.Searches.{IsBetweenTurns, EndsTurn, PutsIn, IsSearched, IsEndedHistory, last_reply};
+ghost use Rattle.bl_tree.specs.Answers.{IsBorn};
+ghost use Rattle.bl_run.specs.Searches.{IsBetweenTurns, EndsTurn, PutsIn, IsStoredWhole, AreStoredWhole, IsFreed, HasTidied, count_with, IsSearched, IsEndedHistory, last_reply};
+ghost use Rattle.bl_journal.specs.Pieces.{form_at_birth};
 ghost use Rattle.bl_journal.specs.Replies.{take_reply};
+ghost use Rattle.bl_journal.specs.Tidying.{splits_of};
 
 use crate::node::work;
+use bl_desc::Form;
 use bl_journal::laws::{
-    budget_holds, children_follow, leases_are_workable, replies_end_searches, span_one_is_explicit,
+    budget_holds, children_follow, leases_are_workable, newborns_are_stored, replies_end_searches,
 };
 use bl_journal::{Order, Settings};
 use bl_problem::Problem;
-use bl_tree::{Lease, Taken, Tree};
+use bl_tree::{Born, Freed, Lease, Taken, Tree};
 use std::alloc::{AllocError, Global};
 use std::sync::Arc;
+
+/// Each node whose depth the span divides is stored whole.
+const SPAN: u32 = 8;
+
+/// After each split whose count this divides, both children are stored whole.
+const SPLITS: u32 = 4;
 
 /// How a turn of the search ended.
 #[derive(Clone, Copy, PartialEq, Eq)]
 pub enum Turn {
-    /// A node was taken, and its outcome was put in.
-    Worked,
+    /// A node was taken, its outcome was put in, and the tree was tidied. So many puts have split by now.
+    Worked { splits: u32 },
     /// No node is live.
     Done,
     /// A live node waits, and the budget is spent.
     Spent,
 }
 
-// Works on the node of a lease and puts the outcome in, or hands the node back where there is no memory.
-fn finish(alloc: Global, problem: &Problem, tree: &mut Tree, lease: Lease) -> Result<(), AllocError>
+// The form in which the children of a node are born.
+fn form_below(depth: u32) -> Form
+    ensures { result ≡ form_at_birth 8 (depth + 1) }
+{
+    if (depth as u64 + 1) % (SPAN as u64) == 0 {
+        Form::Explicit
+    } else {
+        Form::Relative
+    }
+}
+
+// Works on the node of a lease and puts the outcome in, or hands the node back where there is no memory. The answer is what was born.
+fn finish(
+    alloc: Global,
+    problem: &Problem,
+    tree: &mut Tree,
+    lease: Lease,
+) -> Result<Option<Born>, AllocError>
     requires problem { tree.old.problem ≡ problem.now }
-    requires span { tree.old.settings.span ≡ 1 }
+    requires span { tree.old.settings.span ≡ 8 }
     requires leased { IsLeaseOf tree.old 0 lease }
-    ensures { OnOk result (PutsIn tree.old lease tree.new) }
+    ensures { IfOk result (λ born. PutsIn tree.old lease born tree.new) }
 {
     leases_are_workable();
     children_follow();
-    span_one_is_explicit();
+    newborns_are_stored();
     let _columns = problem.columns();
     let _journal = tree.journal();
-    match work(alloc, problem, lease.desc()) {
-        Ok(outcome) => {
-            tree.put(0, lease, outcome);
-            Ok(())
-        }
+    let form = form_below(lease.depth());
+    match work(alloc, problem, lease.desc(), form) {
+        Ok(outcome) => Ok(tree.put(0, lease, outcome)),
         Err(error) => {
             tree.back(0, lease);
             Err(error)
@@ -49,17 +73,71 @@ fn finish(alloc: Global, problem: &Problem, tree: &mut Tree, lease: Lease) -> Re
     }
 }
 
-// Takes a node, if a live one waits and the budget allows it, and works on it.
-fn take_turn(alloc: Global, problem: &Problem, tree: &mut Tree) -> Result<Turn, AllocError>
+// Stores a node whole, unless it is freed.
+fn store_whole(tree: &mut Tree, id: u32) -> Result<(), AllocError>
+    requires { IsBorn tree.old id }
+    ensures { OnOk result (IsStoredWhole tree.old id tree.new) }
+{
+    tree.recode(0, id, Form::Explicit)?;
+    Ok(())
+}
+
+// Stores both children whole, unless they are freed.
+fn store_both(tree: &mut Tree, born: Born) -> Result<(), AllocError>
+    requires left { IsBorn tree.old born.left }
+    requires right { IsBorn tree.old born.right }
+    ensures { OnOk result (AreStoredWhole tree.old born tree.new) }
+{
+    store_whole(tree, born.left)?;
+    store_whole(tree, born.right)
+}
+
+// Frees nodes until none may be freed.
+fn free_all(tree: &mut Tree) -> Result<(), AllocError>
+    ensures { OnOk result (IsFreed tree.old tree.new) }
+{
+    while let Freed::Chain(_) = tree.free(0)? {}
+    Ok(())
+}
+
+// Tidies up after a put: after each fourth split both children are stored whole; then nodes are freed until none may be. The answer is how many puts have split.
+fn tidy(tree: &mut Tree, born: Option<Born>, splits: u32) -> Result<u32, AllocError>
+    requires left { IfSome born (λ b. IsBorn tree.old b.left) }
+    requires right { IfSome born (λ b. IsBorn tree.old b.right) }
+    requires few { splits ≤ 100000 }
+    ensures count { IfOk result (λ count. count ≡ count_with splits born) }
+    ensures tidied { IfOk result (λ count. HasTidied tree.old born count tree.new) }
+{
+    let mut count = splits;
+    if let Some(born) = born {
+        count += 1;
+        if count % SPLITS == 0 {
+            store_both(tree, born)?;
+        }
+    }
+    free_all(tree)?;
+    Ok(count)
+}
+
+// Takes a node, if a live one waits and the budget allows it, works on it and tidies up.
+fn take_turn(
+    alloc: Global,
+    problem: &Problem,
+    tree: &mut Tree,
+    splits: u32,
+) -> Result<Turn, AllocError>
     requires problem { tree.old.problem ≡ problem.now }
-    requires span { tree.old.settings.span ≡ 1 }
+    requires span { tree.old.settings.span ≡ 8 }
     requires between { IsBetweenTurns tree.old }
+    requires splits { splits ≡ splits_of 0 (past_of tree.old) }
+    requires few { splits ≤ 100000 }
     ensures { IfOk result (λ turn. EndsTurn tree.old turn tree.new) }
 {
     match tree.take(0)? {
         Taken::Node(lease) => {
-            finish(alloc, problem, tree, lease)?;
-            Ok(Turn::Worked)
+            let born = finish(alloc, problem, tree, lease)?;
+            let splits = tidy(tree, born, splits)?;
+            Ok(Turn::Worked { splits })
         }
         Taken::Idle => Ok(Turn::Done),
         Taken::Done => Ok(Turn::Done),
@@ -99,13 +177,16 @@ pub fn search_tree(
     budget_holds();
     let settings = Settings {
         nodes,
-        span: 1,
+        span: SPAN,
         order: Order::Best,
     };
     let mut tree = Tree::new(alloc, Arc::try_clone(problem)?, settings)?;
+    // A root that is not live is freed before the first take.
+    free_all(&mut tree)?;
+    let mut splits = 0;
     for _ in 0..nodes + 1 {
-        match take_turn(alloc, problem, &mut tree)? {
-            Turn::Worked => (),
+        match take_turn(alloc, problem, &mut tree, splits)? {
+            Turn::Worked { splits: count } => splits = count,
             Turn::Done => return Ok(end(tree, false)),
             Turn::Spent => return Ok(end(tree, true)),
         }

@@ -10,7 +10,7 @@ use Rattle.bl_problem.specs.declared.cut.Cut.{Cut}
 use Rattle.bl_desc.specs.declared.desc.Desc.{Desc}
 use Rattle.bl_desc.specs.declared.change.Change.{Change}
 use Rattle.bl_desc.specs.declared.desc.Piece.{Piece}
-use Rattle.bl_desc.specs.declared.desc.Piece.TheVariants.{Explicit}
+use Rattle.bl_desc.specs.Changes.{changed}
 use Rattle.bl_journal.specs.declared.entry.Entry.{Entry}
 use Rattle.bl_journal.specs.declared.entry.Entry.TheVariants.{Take, Put, Back, Encode, Free}
 use Rattle.bl_journal.specs.declared.entry.Step.{Step}
@@ -20,19 +20,21 @@ use Rattle.bl_journal.specs.declared.outcome.Next.TheVariants.{Shut as ShutNext,
 use Rattle.bl_journal.specs.declared.outcome.Outcome.{Outcome}
 use Rattle.bl_journal.specs.declared.settings.Settings.{Settings}
 use Rattle.bl_tree.specs.declared.record.Record.{Record}
-use Rattle.bl_tree.specs.declared.record.Stage.TheVariants.{Parted, Closed}
+use Rattle.bl_tree.specs.declared.record.Stage.TheVariants.{Closed}
 use Rattle.bl_journal.specs.Births.{nodes_of, node_at, root_node}
-use Rattle.bl_journal.specs.Descriptions.{full_of}
+use Rattle.bl_journal.specs.Descriptions.{full_of, left_child, right_child}
 use Rattle.bl_journal.specs.States.{out, shut, state_of, best_of, best_with, value_if, Found}
-use Rattle.bl_journal.specs.Pieces.{stored_of}
+use Rattle.bl_journal.specs.Pieces.{is_freed, stored_of, rebuilt}
 use Rattle.bl_journal.specs.Legality.{IsLegalPast, MayPut}
 use Rattle.bl_tree.specs.Views.{TreeView, LeaseView, IsPutFor, PiecesStored, step_of}
-use Rattle.bl_tree.specs.Records.{is_out_stage, IsKept, best_value_with, fresh_record}
+use Rattle.bl_tree.specs.Records.{is_out_stage, IsKept, best_value_with, fresh_record, box_has_point}
 use Rattle.bl_journal.proofs.Leaves.{shape, out_born, state_kept, left_of, right_of, after_split}
 use Rattle.bl_journal.proofs.Sums.{one_if}
-use Rattle.bl_journal.proofs.Births.{stored_explicit}
-use Rattle.bl_tree.proofs.Kept.{reverse-push, records_set, count_by-set, kept_out}
-use Rattle.bl_tree.proofs.Puts.{records_split, new_record}
+use Rattle.bl_journal.proofs.Births.{left_follows, right_follows}
+use Rattle.bl_tree.proofs.Sets.{reverse-push, records_set, same_box, count_by-set}
+use Rattle.bl_tree.proofs.Stored.{stored_stage, stored_split}
+use Rattle.bl_tree.proofs.Kept.{kept_out, not_parted, is_over_by_split}
+use Rattle.bl_tree.proofs.Puts.{records_split, parted, child_record}
 
 -- a node's depth is at most its number
 pub depth_le : (p : Program) (s : Settings) (past : List Entry) → IsLegalPast p s past → (id : ℕ) → id < length (nodes_of p past) → (node_at p past id).depth ≤ id
@@ -73,8 +75,13 @@ kept_shut p s past room room' capacity kept taken best id seat found low r k may
     let same : length (slice_set kept id (record r { stage = Closed })) ≡ length kept = length-set kept id (record r { stage = Closed }) in
     record {
       legal = (may, k.legal);
-      span = k.span;
-      records = records_set p past (Put seat id found low Shut ∷ past) kept id r Closed refl
+      span_some = k.span_some;
+      span_few = k.span_few;
+      storage = stored_stage p s past (Put seat id found low Shut ∷ past) kept id r Closed refl (λ j. refl)
+          (λ q ne. state_kept q id (state_of past q) shut (λ h. ne (sym h)))
+          (ap is_freed (cond-true (id == id) shut (state_of past id) (eq-eqb id id refl))) (ap is_freed may.is_out)
+          (not_parted r.stage (state_of past id) (k.records.each id r e).stage (ap is_over_by_split may.is_out)) k.storage e;
+      records = records_set p past (Put seat id found low Shut ∷ past) kept id r (record r { stage = Closed }) (same_box r Closed) refl
           (sym (cond-true (id == id) shut (state_of past id) (eq-eqb id id refl)))
           (λ q ne. state_kept q id (state_of past q) shut (λ h. ne (sym h)))
           k.records e;
@@ -88,18 +95,25 @@ kept_shut p s past room room' capacity kept taken best id seat found low r k may
       few = k.few;
     }
 
+-- the pieces of the two children, of which the first has the number n
+pub record ChildPieces (p : Program) (s : Settings) (past : List Entry) (left right : Piece Cut) (n : ℕ) : Type 0 where
+  pub left_is : left ≡ stored_of p s past n
+  pub right_is : right ≡ stored_of p s past (n + 1)
+
 pub kept_split : (p : Program) (s : Settings) (past : List Entry) (room room' capacity : ℕ) (kept : List Record) (taken : ℕ) (best : Option ℤ) (id seat : ℕ) (found : Option (List ℤ)) (low : ℤ)
-    (common : Change Cut) (column : ℕ) (at : ℤ) (r : Record) (ld rd : Desc Cut)
+    (common : Change Cut) (column : ℕ) (at : ℤ) (r : Record) (lo ro : Bool) (left right : Piece Cut)
     → IsKept p s past room capacity kept taken best → MayPut p past seat id found low (Split common column at) → slice_get kept id ≡ Some r → room' + 1 ≡ room
-    → ld ≡ full_of p (Put seat id found low (Split common column at) ∷ past) (length (nodes_of p past))
-    → rd ≡ full_of p (Put seat id found low (Split common column at) ∷ past) (length (nodes_of p past) + 1)
+    → lo ≡ box_has_point (full_of p (Put seat id found low (Split common column at) ∷ past) (length (nodes_of p past)))
+    → ro ≡ box_has_point (full_of p (Put seat id found low (Split common column at) ∷ past) (length (nodes_of p past) + 1))
+    → ChildPieces p s (Put seat id found low (Split common column at) ∷ past) left right (length (nodes_of p past))
     → IsKept p s (Put seat id found low (Split common column at) ∷ past) room' capacity
-    (slice_set kept id (record r { stage = Parted }) ++ new_record r low ld ∷ new_record r low rd ∷ []) taken (best_value_with p best found)
-kept_split p s past room room' capacity kept taken best id seat found low common column at r ld rd k may e less el er =
-    let set : List Record = slice_set kept id (record r { stage = Parted }) in
-    let two : List Record = new_record r low ld ∷ new_record r low rd ∷ [] in
-    let c : count_by (λ r. is_out_stage r.stage) (slice_set kept id (record r { stage = Parted })) + one_if (is_out_stage r.stage) ≡ count_by (λ r. is_out_stage r.stage) kept + 0 =
-    count_by-set (λ (q : Record). is_out_stage q.stage) kept id (record r { stage = Parted }) r e in
+    (slice_set kept id (parted (length (nodes_of p past)) r) ++ child_record id r low lo left ∷ child_record id r low ro right ∷ []) taken (best_value_with p best found)
+kept_split p s past room room' capacity kept taken best id seat found low common column at r lo ro left right k may e less el er pieces =
+    let y : Record = parted (length (nodes_of p past)) r in
+    let set : List Record = slice_set kept id y in
+    let two : List Record = child_record id r low lo left ∷ child_record id r low ro right ∷ [] in
+    let c : count_by (λ r. is_out_stage r.stage) set + one_if (is_out_stage r.stage) ≡ count_by (λ r. is_out_stage r.stage) kept + 0 =
+    count_by-set (λ (q : Record). is_out_stage q.stage) kept id y r e in
     let one : one_if (is_out_stage r.stage) ≡ 1 = ap one_if (kept_out p s past room capacity kept taken best id seat r k may.is_out e).1 in
     let all : count_by (λ r. is_out_stage r.stage) (set ++ two) ≡ count_by (λ r. is_out_stage r.stage) set + 0 =
     sum_by-append (λ (q : Record). one_if (is_out_stage q.stage)) set two in
@@ -107,12 +121,16 @@ kept_split p s past room room' capacity kept taken best id seat found low common
     let cap : length kept + 2 * count_by (λ r. is_out_stage r.stage) kept ≤ capacity = k.capacity_is in
     let outs : count_by (λ r. is_out_stage r.stage) kept ≤ taken = k.outs in
     let size : length kept + 2 * count_by (λ r. is_out_stage r.stage) kept ≤ 2 * taken + 1 = k.size in
-    let same : length (slice_set kept id (record r { stage = Parted })) ≡ length kept = length-set kept id (record r { stage = Parted }) in
+    let same : length set ≡ length kept = length-set kept id y in
     let longer : length (set ++ two) ≡ length set + 2 = length-append set two in
     record {
       legal = (may, k.legal);
-      span = k.span;
-      records = records_split p past kept seat id found low common column at r ld rd (shape p s past k.legal) may k.records e el er;
+      span_some = k.span_some;
+      span_few = k.span_few;
+      storage = stored_split p s past kept seat id found low common column at r (child_record id r low lo left) (child_record id r low ro right) left right k.legal may k.storage k.records.count e
+          (not_parted r.stage (state_of past id) (k.records.each id r e).stage (ap is_over_by_split may.is_out))
+          refl refl refl refl refl refl pieces.left_is pieces.right_is;
+      records = records_split p past kept seat id found low common column at r lo ro left right (shape p s past k.legal) may k.records e el er;
       used = k.used;
       best_is = ap (λ o. best_value_with p o found) k.best_is ∙ best_value_same p (best_of p past) found;
       room_is = omega (arith, c, all, one, before, less);
@@ -124,26 +142,27 @@ kept_split p s past room room' capacity kept taken best id seat found low common
     }
 
 -- what a call of put may rest on, over the parts of the tree
-pub record PutFacts (p : Program) (s : Settings) (history : List Entry) (seat id : ℕ) (outcome : Outcome) (next : Next) : Type 0 where
+pub record PutFacts (p : Program) (s : Settings) (history : List Entry) (seat id : ℕ) (lease : LeaseView) (outcome : Outcome) (next : Next) : Type 0 where
   pub may : MayPut p (reverse history) seat id outcome.found outcome.low (step_of next)
+  pub chain : rebuilt lease.chain ≡ Some (full_of p (reverse history) id)
   pub pieces : PiecesStored (record { problem = p; settings = s; history = history ++ Put seat id outcome.found outcome.low (step_of next) ∷ [] }) next
 
 pub put_facts : (p : Program) (s : Settings) (history : List Entry) (t : TreeView) (seat : ℕ) (lease : LeaseView) (outcome : Outcome) (id : ℕ) (next : Next)
-    → (record { problem = p; settings = s; history = history }) ≡ t → id ≡ lease.id → outcome.next ≡ next → IsPutFor t seat lease outcome → PutFacts p s history seat id outcome next
+    → (record { problem = p; settings = s; history = history }) ≡ t → id ≡ lease.id → outcome.next ≡ next → IsPutFor t seat lease outcome → PutFacts p s history seat id lease outcome next
 put_facts p s history t seat lease outcome id next view same is r =
     let r' : IsPutFor (record { problem = p; settings = s; history = history }) seat lease outcome = subst (λ (u : TreeView). IsPutFor u seat lease outcome) (sym view) r in
-    let base : PutFacts p s history seat lease.id outcome outcome.next = record { may = r'.allowed; pieces = r'.pieces } in
-    subst (λ (n : Next). PutFacts p s history seat id outcome n) is (subst (λ (i : ℕ). PutFacts p s history seat i outcome outcome.next) (sym same) base)
+    let base : PutFacts p s history seat lease.id lease outcome outcome.next = record { may = r'.allowed; chain = r'.leased.chain; pieces = r'.pieces } in
+    subst (λ (n : Next). PutFacts p s history seat id lease outcome n) is (subst (λ (i : ℕ). PutFacts p s history seat i lease outcome outcome.next) (sym same) base)
 
--- with span 1 the pieces of a split are the descriptions of the two children
-pub record ChildPieces (p : Program) (past : List Entry) (left right : Piece Cut) (n : ℕ) : Type 0 where
-  pub left_is : left ≡ Explicit (full_of p past n)
-  pub right_is : right ≡ Explicit (full_of p past (n + 1))
+-- the description of a lease is that of its node
+pub desc_is : (p : Program) (s : Settings) (history : List Entry) (seat id : ℕ) (lease : LeaseView) (outcome : Outcome) (next : Next) (d : Desc Cut) → PutFacts p s history seat id lease outcome next
+    → rebuilt lease.chain ≡ Some d → d ≡ full_of p (reverse history) id
+desc_is p s history seat id lease outcome next d f e = let g : Some d ≡ Some (full_of p (reverse history) id) = sym e ∙ f.chain in cc
 
-pub split_pieces : (p : Program) (s : Settings) (history : List Entry) (seat id : ℕ) (outcome : Outcome) (common : Change Cut) (column : ℕ) (at : ℤ) (left right : Piece Cut)
-    → s.span ≡ 1 → PutFacts p s history seat id outcome (SplitNext common column at left right)
-    → ChildPieces p (Put seat id outcome.found outcome.low (Split common column at) ∷ reverse history) left right (length (nodes_of p (reverse history)))
-split_pieces p s history seat id outcome common column at left right span f =
+pub split_pieces : (p : Program) (s : Settings) (history : List Entry) (seat id : ℕ) (lease : LeaseView) (outcome : Outcome) (common : Change Cut) (column : ℕ) (at : ℤ) (left right : Piece Cut)
+    → PutFacts p s history seat id lease outcome (SplitNext common column at left right)
+    → ChildPieces p s (Put seat id outcome.found outcome.low (Split common column at) ∷ reverse history) left right (length (nodes_of p (reverse history)))
+split_pieces p s history seat id lease outcome common column at left right f =
     let past : List Entry = reverse history in
     let e : Entry = Put seat id outcome.found outcome.low (Split common column at) in
     let turned : reverse (history ++ e ∷ []) ≡ e ∷ past = reverse-push history e in
@@ -152,12 +171,9 @@ split_pieces p s history seat id outcome common column at left right span f =
     let first : n - 2 ≡ length (nodes_of p past) = omega (arith, len) in
     let second : n - 1 ≡ length (nodes_of p past) + 1 = omega (arith, len) in
     record {
-      left_is = f.pieces.0 ∙ (ap (λ h. stored_of p s h (length (nodes_of p h) - 2)) turned ∙ (stored_explicit p s (e ∷ past) (n - 2) span ∙ ap (λ k. Explicit (full_of p (e ∷ past) k)) first));
-      right_is = f.pieces.1 ∙ (ap (λ h. stored_of p s h (length (nodes_of p h) - 1)) turned ∙ (stored_explicit p s (e ∷ past) (n - 1) span ∙ ap (λ k. Explicit (full_of p (e ∷ past) k)) second));
+      left_is = f.pieces.0 ∙ (ap (λ h. stored_of p s h (length (nodes_of p h) - 2)) turned ∙ ap (stored_of p s (e ∷ past)) first);
+      right_is = f.pieces.1 ∙ (ap (λ h. stored_of p s h (length (nodes_of p h) - 1)) turned ∙ ap (stored_of p s (e ∷ past)) second);
     }
-
-pub explicit_is : (piece : Piece Cut) (d e : Desc Cut) → piece ≡ Explicit d → piece ≡ Explicit e → d ≡ e
-explicit_is piece d e a b = let f : Explicit d ≡ Explicit e = sym a ∙ b in cc
 
 -- a found point is within the bounds
 pub found_within : (p : Program) (past : List Entry) (seat id : ℕ) (found : Option (List ℤ)) (low : ℤ) (next : Step) → MayPut p past seat id found low next
@@ -166,11 +182,11 @@ found_within p past seat id None low next may = tt
 found_within p past seat id (Some x) low next may = may.sound.found_ok.0.box
 
 -- a put that shuts, as the code leaves it
-pub shut_done : (p : Program) (s : Settings) (history entries : List Entry) (room room' capacity : ℕ) (kept : List Record) (taken : ℕ) (best best' : Option ℤ) (id seat : ℕ) (outcome : Outcome) (r : Record)
-    → IsKept p s (reverse history) room capacity kept taken best → PutFacts p s history seat id outcome ShutNext → slice_get kept id ≡ Some r → room' + 1 ≡ room
+pub shut_done : (p : Program) (s : Settings) (history entries : List Entry) (room room' capacity : ℕ) (kept : List Record) (taken : ℕ) (best best' : Option ℤ) (id seat : ℕ) (lease : LeaseView) (outcome : Outcome) (r : Record)
+    → IsKept p s (reverse history) room capacity kept taken best → PutFacts p s history seat id lease outcome ShutNext → slice_get kept id ≡ Some r → room' + 1 ≡ room
     → entries ≡ history ++ Put seat id outcome.found outcome.low Shut ∷ [] → best' ≡ best_value_with p best outcome.found
     → IsKept p s (reverse entries) room' capacity (slice_set kept id (record r { stage = Closed })) taken best'
-shut_done p s history entries room room' capacity kept taken best best' id seat outcome r k f e less made b =
+shut_done p s history entries room room' capacity kept taken best best' id seat lease outcome r k f e less made b =
     let past : reverse entries ≡ Put seat id outcome.found outcome.low Shut ∷ reverse history =
     ap reverse made ∙ reverse-push history (Put seat id outcome.found outcome.low Shut) in
     subst (λ (h : List Entry). IsKept p s h room' capacity (slice_set kept id (record r { stage = Closed })) taken best') (sym past)
@@ -178,35 +194,42 @@ shut_done p s history entries room room' capacity kept taken best best' id seat 
     (kept_shut p s (reverse history) room room' capacity kept taken best id seat outcome.found outcome.low r k f.may e less))
 
 -- a put that splits, as the code leaves it
-pub split_done : (p : Program) (s : Settings) (history entries : List Entry) (room room' capacity capacity' : ℕ) (kept one two : List Record) (taken : ℕ) (best best' : Option ℤ) (id seat : ℕ) (outcome : Outcome)
-    (common : Change Cut) (column : ℕ) (at : ℤ) (left right : Piece Cut) (r r1 r2 : Record) (ld rd : Desc Cut) (low : ℤ)
-    → IsKept p s (reverse history) room capacity kept taken best → PutFacts p s history seat id outcome (SplitNext common column at left right) → slice_get kept id ≡ Some r → room' + 1 ≡ room
-    → capacity' ≡ capacity → left ≡ Explicit ld → right ≡ Explicit rd → low ≡ int_max r.low outcome.low
-    → r1 ≡ fresh_record (r.depth + 1) low ld → r2 ≡ fresh_record (r.depth + 1) low rd
-    → one ≡ slice_set kept id (record r { stage = Parted }) ++ r1 ∷ [] → two ≡ one ++ r2 ∷ []
+pub split_done : (p : Program) (s : Settings) (history entries : List Entry) (room room' capacity capacity' : ℕ) (kept one two : List Record) (taken : ℕ) (best best' : Option ℤ) (id seat count : ℕ) (lease : LeaseView) (outcome : Outcome)
+    (common : Change Cut) (column : ℕ) (at : ℤ) (left right : Piece Cut) (r r1 r2 : Record) (desc : Desc Cut) (lo ro : Bool) (low : ℤ)
+    → IsKept p s (reverse history) room capacity kept taken best → PutFacts p s history seat id lease outcome (SplitNext common column at left right) → slice_get kept id ≡ Some r → room' + 1 ≡ room
+    → capacity' ≡ capacity → count ≡ length kept → desc ≡ full_of p (reverse history) id
+    → lo ≡ box_has_point (left_child (changed common desc) column at) → ro ≡ box_has_point (right_child (changed common desc) column at) → low ≡ int_max r.low outcome.low
+    → r1 ≡ fresh_record id (r.depth + 1) low lo left → r2 ≡ fresh_record id (r.depth + 1) low ro right
+    → one ≡ slice_set kept id (parted count r) ++ r1 ∷ [] → two ≡ one ++ r2 ∷ []
     → entries ≡ history ++ Put seat id outcome.found outcome.low (Split common column at) ∷ [] → best' ≡ best_value_with p best outcome.found
     → IsKept p s (reverse entries) room' capacity' two taken best'
-split_done p s history entries room room' capacity capacity' kept one two taken best best' id seat outcome common column at left right r r1 r2 ld rd low
-    k f e less wide el er lows e1 e2 ones twos made b =
-    let past : reverse entries ≡ Put seat id outcome.found outcome.low (Split common column at) ∷ reverse history =
-    ap reverse made ∙ reverse-push history (Put seat id outcome.found outcome.low (Split common column at)) in
-    let pieces = split_pieces p s history seat id outcome common column at left right k.span f in
-    let lf = explicit_is left ld _ el pieces.left_is in
-    let rf = explicit_is right rd _ er pieces.right_is in
-    let f1 : r1 ≡ new_record r outcome.low ld = e1 ∙ ap (λ z. fresh_record (r.depth + 1) z ld) lows in
-    let f2 : r2 ≡ new_record r outcome.low rd = e2 ∙ ap (λ z. fresh_record (r.depth + 1) z rd) lows in
-    let set : List Record = slice_set kept id (record r { stage = Parted }) in
-    let all : two ≡ set ++ new_record r outcome.low ld ∷ new_record r outcome.low rd ∷ [] =
-    twos ∙ (ap (λ l. l ++ r2 ∷ []) ones ∙ (append_assoc set (r1 ∷ []) (r2 ∷ [])
-    ∙ (ap (λ x. set ++ x ∷ r2 ∷ []) f1 ∙ ap (λ x. set ++ new_record r outcome.low ld ∷ x ∷ []) f2))) in
-    let base : IsKept p s (Put seat id outcome.found outcome.low (Split common column at) ∷ reverse history) room' capacity
-    (set ++ new_record r outcome.low ld ∷ new_record r outcome.low rd ∷ []) taken (best_value_with p best outcome.found) =
-    kept_split p s (reverse history) room room' capacity kept taken best id seat outcome.found outcome.low common column at r ld rd k f.may e less lf rf in
+split_done p s history entries room room' capacity capacity' kept one two taken best best' id seat count lease outcome common column at left right r r1 r2 desc lo ro low
+    k f e less wide counts is_full opens_left opens_right lows e1 e2 ones twos made b =
+    let e0 : Entry = Put seat id outcome.found outcome.low (Split common column at) in
+    let past : reverse entries ≡ e0 ∷ reverse history = ap reverse made ∙ reverse-push history e0 in
+    let n : count ≡ length (nodes_of p (reverse history)) = counts ∙ k.records.count in
+    let pieces = split_pieces p s history seat id lease outcome common column at left right f in
+    let lf : lo ≡ box_has_point (full_of p (e0 ∷ reverse history) (length (nodes_of p (reverse history)))) =
+    opens_left ∙ (ap (λ (d : Desc Cut). box_has_point (left_child (changed common d) column at)) is_full
+    ∙ ap box_has_point (sym (left_follows p (reverse history) seat id outcome.found outcome.low common column at f.may))) in
+    let rf : ro ≡ box_has_point (full_of p (e0 ∷ reverse history) (length (nodes_of p (reverse history)) + 1)) =
+    opens_right ∙ (ap (λ (d : Desc Cut). box_has_point (right_child (changed common d) column at)) is_full
+    ∙ ap box_has_point (sym (right_follows p (reverse history) seat id outcome.found outcome.low common column at f.may))) in
+    let f1 : r1 ≡ child_record id r outcome.low lo left = e1 ∙ ap (λ z. fresh_record id (r.depth + 1) z lo left) lows in
+    let f2 : r2 ≡ child_record id r outcome.low ro right = e2 ∙ ap (λ z. fresh_record id (r.depth + 1) z ro right) lows in
+    let set : ℕ → List Record = λ m. slice_set kept id (parted m r) in
+    let all : two ≡ set (length (nodes_of p (reverse history))) ++ child_record id r outcome.low lo left ∷ child_record id r outcome.low ro right ∷ [] =
+    twos ∙ (ap (λ l. l ++ r2 ∷ []) ones ∙ (append_assoc (set count) (r1 ∷ []) (r2 ∷ [])
+    ∙ (ap (λ x. set count ++ x ∷ r2 ∷ []) f1 ∙ (ap (λ x. set count ++ child_record id r outcome.low lo left ∷ x ∷ []) f2
+    ∙ ap (λ m. set m ++ child_record id r outcome.low lo left ∷ child_record id r outcome.low ro right ∷ []) n)))) in
+    let base : IsKept p s (e0 ∷ reverse history) room' capacity
+    (set (length (nodes_of p (reverse history))) ++ child_record id r outcome.low lo left ∷ child_record id r outcome.low ro right ∷ []) taken (best_value_with p best outcome.found) =
+    kept_split p s (reverse history) room room' capacity kept taken best id seat outcome.found outcome.low common column at r lo ro left right k f.may e less lf rf pieces in
     subst (λ (h : List Entry). IsKept p s h room' capacity' two taken best') (sym past)
-    (subst (λ (n : ℕ). IsKept p s (Put seat id outcome.found outcome.low (Split common column at) ∷ reverse history) room' n two taken best') (sym wide)
-    (subst (λ (l : List Record). IsKept p s (Put seat id outcome.found outcome.low (Split common column at) ∷ reverse history) room' capacity l taken best') (sym all)
-    (subst (λ (o : Option ℤ). IsKept p s (Put seat id outcome.found outcome.low (Split common column at) ∷ reverse history) room' capacity
-    (set ++ new_record r outcome.low ld ∷ new_record r outcome.low rd ∷ []) taken o) (sym b) base)))
+    (subst (λ (m : ℕ). IsKept p s (e0 ∷ reverse history) room' m two taken best') (sym wide)
+    (subst (λ (l : List Record). IsKept p s (e0 ∷ reverse history) room' capacity l taken best') (sym all)
+    (subst (λ (o : Option ℤ). IsKept p s (e0 ∷ reverse history) room' capacity
+    (set (length (nodes_of p (reverse history))) ++ child_record id r outcome.low lo left ∷ child_record id r outcome.low ro right ∷ []) taken o) (sym b) base)))
 
 -- the numbers that the code may rest on at a put
 pub record PutRoom (id depth room capacity : ℕ) (kept : List Record) : Type 0 where

@@ -1,10 +1,7 @@
 -- The records follow the history.
-use Rattle.std.proofs.Common.{◌≡◌, ℕ, zero, suc, ◌+◌, ◌-◌, ◌*◌, ◌<◌, ◌≤◌, List, [], ◌∷◌, ◌++◌, length, refl, ap, sym, ◌∙◌, subst, arith, Bool, true, false, cond, Some, None, Option, inl, inr, length-set}
+use Rattle.std.proofs.Common.{◌≡◌, ℕ, zero, suc, ◌+◌, ◌-◌, ◌*◌, ◌<◌, ◌≤◌, List, [], ◌∷◌, ◌++◌, length, refl, ap, sym, ◌∙◌, subst, arith, Bool, true, false, Some, None, Option, length-set}
 use Rattle.std.specs.Prelude.{slice_get, slice_set, count_by, reverse, ℤ, ◌==◌, nat_lt}
-use Rattle.std.proofs.lemmas.List.{reverse-append}
-use Rattle.std.proofs.lemmas.Bool.{cases_eq, eq-eqb, cond-true}
-use Rattle.std.proofs.lemmas.Option.{slice_get_within, get_or_from_slice_get}
-use Rattle.std.proofs.lemmas.List.Sums.{sum_by-set}
+use Rattle.std.proofs.lemmas.Bool.{eq-eqb, cond-true}
 use Rattle.bl_problem.specs.Program.{Program}
 use Rattle.bl_journal.specs.declared.entry.Entry.{Entry}
 use Rattle.bl_journal.specs.declared.entry.Entry.TheVariants.{Take, Back}
@@ -13,83 +10,43 @@ use Rattle.bl_tree.specs.declared.record.Record.{Record}
 use Rattle.bl_tree.specs.declared.record.Stage.{Stage}
 use Rattle.bl_tree.specs.declared.record.Stage.TheVariants.{Waiting, Out, Parted, Closed, Gone}
 use Rattle.bl_journal.specs.Births.{nodes_of, node_at}
-use Rattle.bl_journal.specs.Descriptions.{full_of, full_along}
-use Rattle.bl_journal.specs.States.{waiting, out, state_of, has_point, used_of, best_of, value_if}
+use Rattle.bl_journal.specs.Descriptions.{full_of}
+use Rattle.bl_journal.specs.States.{State, waiting, out, split, shut, freed, state_of, has_point, used_of, best_of, value_if}
 use Rattle.bl_journal.specs.States.{is_below, Found}
 use Rattle.bl_journal.specs.declared.settings.Order.{Order}
 use Rattle.bl_journal.specs.declared.settings.Order.TheVariants.{Best, Depth}
 use Rattle.bl_journal.specs.Replies.{reply_for, first_below, next_of, waits_live, goes_before, is_waiting, is_out, any_out, any_below, take_reply, gives}
 use Rattle.bl_journal.proofs.Living.{take_gives}
 use Rattle.bl_tree.proofs.Searches.{first_below-same}
+use Rattle.bl_tree.proofs.Sets.{reverse-push, count_by-set, records_set, same_box}
+use Rattle.bl_tree.proofs.Stored.{stored_stage}
 use Rattle.bl_problem.specs.declared.cut.Cut.{Cut}
-use Rattle.bl_desc.specs.declared.desc.Desc.{Desc}
 use Rattle.bl_desc.specs.declared.desc.Piece.{Piece}
-use Rattle.bl_desc.specs.declared.desc.Piece.TheVariants.{Explicit}
 use Rattle.bl_tree.specs.Views.{TreeView, LeaseView}
 use Rattle.bl_tree.specs.Calls.{IsTaken}
-use Rattle.bl_journal.specs.Pieces.{stored_of, chain_along, chained, chain_of}
+use Rattle.bl_journal.specs.Pieces.{is_freed, stored_of, chain_along, chained, chain_of, rebuilt}
 use Rattle.bl_journal.specs.States.{cutoff_of}
-use Rattle.bl_tree.specs.Records.{stage_state, is_out_stage, is_waiting_stage, is_out_if, is_below_value, waits, waits_if, precedes, precedes_if, IsRecordOf, AreRecords, IsKept}
+use Rattle.bl_tree.specs.Records.{stage_state, is_out_stage, is_waiting_stage, is_out_if, is_below_value, waits, waits_if, precedes, precedes_if, was_parted, IsRecordOf, AreRecords, IsKept}
 use Rattle.bl_journal.proofs.Sums.{one_if}
-use Rattle.bl_journal.proofs.Births.{stored_explicit}
-use Rattle.bl_journal.proofs.Leaves.{shape, out_born, state_kept}
+use Rattle.bl_journal.proofs.Leaves.{shape, out_born, state_kept, is_waiting-is}
 
-pub reverse-push : (history : List Entry) (e : Entry) → reverse (history ++ e ∷ []) ≡ e ∷ reverse history
-reverse-push history e = reverse-append history (e ∷ [])
+-- the node was split, or is freed
+abbrev pub is_over_by_split : State → Bool
+is_over_by_split waiting = false
+is_over_by_split (out seat) = false
+is_over_by_split split = true
+is_over_by_split shut = false
+is_over_by_split freed = true
 
-pub slice_get-set : {X : Type 0} (xs : List X) (i k : ℕ) (y q : X) → slice_get (slice_set xs i y) k ≡ Some q → (k ≡ i → y ≡ q) × ((k ≡ i → ⊥) → slice_get xs k ≡ Some q)
-slice_get-set [] i k y q e = (λ _. cc, λ _. cc)
-slice_get-set (x ∷ xs) zero zero y q e = (λ _. cc, λ ne. absurd (ne refl))
-slice_get-set (x ∷ xs) zero (suc k) y q e = (λ h. absurd (omega (arith, h)), λ _. e)
-slice_get-set (x ∷ xs) (suc i) zero y q e = (λ h. absurd (omega (arith, h)), λ _. e)
-slice_get-set (x ∷ xs) (suc i) (suc k) y q e =
-    let r = slice_get-set xs i k y q e in
-    (λ h. r.0 (omega (arith, h)), λ ne. r.1 (λ h. ne (ap suc h)))
-
-pub count_by-set : {X : Type 0} (test : X → Bool) (xs : List X) (i : ℕ) (y r : X) → slice_get xs i ≡ Some r
-    → count_by test (slice_set xs i y) + one_if (test r) ≡ count_by test xs + one_if (test y)
-count_by-set {X} test xs i y r e =
-    let f : X → ℕ = λ x. cond (test x) 1 0 in
-    let h = sum_by-set f xs i y r (slice_get_within xs i r e) in
-    subst (λ (z : X). count_by test (slice_set xs i y) + one_if (test z) ≡ count_by test xs + one_if (test y)) (get_or_from_slice_get xs i r r e) h
-
--- one record gets another stage
-pub records_set : (p : Program) (past past' : List Entry) (kept : List Record) (id : ℕ) (r : Record) (st : Stage)
-    → nodes_of p past' ≡ nodes_of p past → stage_state st ≡ state_of past' id → ((k : ℕ) → (k ≡ id → ⊥) → state_of past' k ≡ state_of past k)
-    → AreRecords p past kept → slice_get kept id ≡ Some r → AreRecords p past' (slice_set kept id (record r { stage = st }))
-records_set p past past' kept id r st nodes now others rs e =
-    record {
-      count = length-set kept id (record r { stage = st }) ∙ (rs.count ∙ ap length (sym nodes));
-      each = λ k q h. at k q (slice_get-set kept id k (record r { stage = st }) q h);
-    }
+pub not_parted : (t : Stage) (st : State) → stage_state t ≡ st → is_over_by_split st ≡ false → was_parted t ≡ false
+not_parted t st e f = same t ∙ (ap is_over_by_split e ∙ f)
   where
-    same_node : (k : ℕ) → node_at p past k ≡ node_at p past' k
-    same_node k = rw nodes refl
-
-    at : (k : ℕ) (q : Record) → (k ≡ id → (record r { stage = st }) ≡ q) × ((k ≡ id → ⊥) → slice_get kept k ≡ Some q) → IsRecordOf p past' k q
-    at k q s =
-        elim (cases_eq k id) [
-          | inl same ↦
-              let old = rs.each id r e in
-              let new : IsRecordOf p past' id (record r { stage = st }) =
-              record {
-                depth = old.depth ∙ ap (λ n. n.depth) (same_node id);
-                low = old.low ∙ ap (λ n. n.low) (same_node id);
-                stage = now;
-                has_point = old.has_point ∙ ap (λ n. has_point (full_along p n.path).lows (full_along p n.path).highs) (same_node id);
-                piece = old.piece ∙ ap (λ n. Explicit (full_along p n.path)) (same_node id);
-              } in
-              subst (λ (m : ℕ). IsRecordOf p past' m q) (sym same) (subst (λ (z : Record). IsRecordOf p past' id z) (s.0 same) new)
-          | inr other ↦
-              let old = rs.each k q (s.1 other) in
-              record {
-                depth = old.depth ∙ ap (λ n. n.depth) (same_node k);
-                low = old.low ∙ ap (λ n. n.low) (same_node k);
-                stage = old.stage ∙ sym (others k other);
-                has_point = old.has_point ∙ ap (λ n. has_point (full_along p n.path).lows (full_along p n.path).highs) (same_node k);
-                piece = old.piece ∙ ap (λ n. Explicit (full_along p n.path)) (same_node k);
-              }
-        ]
+    same : (t : Stage) → was_parted t ≡ is_over_by_split (stage_state t)
+    same Waiting = refl
+    same (Out seat) = refl
+    same Parted = refl
+    same Closed = refl
+    same Gone = refl
 
 pub kept_born : (p : Program) (s : Settings) (past : List Entry) (room capacity : ℕ) (kept : List Record) (taken : ℕ) (best : Option ℤ) (id seat : ℕ)
     → IsKept p s past room capacity kept taken best → state_of past id ≡ out seat → id < length kept
@@ -129,8 +86,13 @@ kept_back p s past room room' capacity kept taken best id seat r k o e less =
     let same : length (slice_set kept id (record r { stage = Waiting })) ≡ length kept = length-set kept id (record r { stage = Waiting }) in
     record {
       legal = (o, k.legal);
-      span = k.span;
-      records = records_set p past (Back seat id ∷ past) kept id r Waiting refl
+      span_some = k.span_some;
+      span_few = k.span_few;
+      storage = stored_stage p s past (Back seat id ∷ past) kept id r Waiting refl (λ j. refl)
+          (λ q ne. state_kept q id (state_of past q) waiting (λ h. ne (sym h)))
+          (ap is_freed (cond-true (id == id) waiting (state_of past id) (eq-eqb id id refl))) (ap is_freed o)
+          (not_parted r.stage (state_of past id) (k.records.each id r e).stage (ap is_over_by_split o)) k.storage e;
+      records = records_set p past (Back seat id ∷ past) kept id r (record r { stage = Waiting }) (same_box r Waiting) refl
           (sym (cond-true (id == id) waiting (state_of past id) (eq-eqb id id refl)))
           (λ q ne. state_kept q id (state_of past q) waiting (λ h. ne (sym h)))
           k.records e;
@@ -217,6 +179,7 @@ pub kept_take : (p : Program) (s : Settings) (past : List Entry) (room room' cap
     → IsKept p s (Take seat id ∷ past) room' capacity' (slice_set kept id (record r { stage = Out seat })) (taken + 1) best
 kept_take p s past room room' capacity capacity' kept taken best id seat r k t e left fits holds =
     let g = take_gives p s past id t in
+    let waits : state_of past id ≡ waiting = is_waiting-is (state_of past id) g.waits in
     let was : is_out_stage r.stage ≡ false = not_out r.stage (ap is_waiting (k.records.each id r e).stage ∙ g.waits) in
     let none : one_if (is_out_stage r.stage) ≡ 0 = ap one_if was in
     let c = count_by-set (λ (q : Record). is_out_stage q.stage) kept id (record r { stage = Out seat }) r e in
@@ -225,8 +188,13 @@ kept_take p s past room room' capacity capacity' kept taken best id seat r k t e
     let same : length (slice_set kept id (record r { stage = Out seat })) ≡ length kept = length-set kept id (record r { stage = Out seat }) in
     record {
       legal = (t, k.legal);
-      span = k.span;
-      records = records_set p past (Take seat id ∷ past) kept id r (Out seat) refl
+      span_some = k.span_some;
+      span_few = k.span_few;
+      storage = stored_stage p s past (Take seat id ∷ past) kept id r (Out seat) refl (λ j. refl)
+          (λ q ne. state_kept q id (state_of past q) (out seat) (λ h. ne (sym h)))
+          (ap is_freed (cond-true (id == id) (out seat) (state_of past id) (eq-eqb id id refl))) (ap is_freed waits)
+          (not_parted r.stage (state_of past id) (k.records.each id r e).stage (ap is_over_by_split waits)) k.storage e;
+      records = records_set p past (Take seat id ∷ past) kept id r (record r { stage = Out seat }) (same_box r (Out seat)) refl
           (sym (cond-true (id == id) (out seat) (state_of past id) (eq-eqb id id refl)))
           (λ q ne. state_kept q id (state_of past q) (out seat) (λ h. ne (sym h)))
           k.records e;
@@ -263,30 +231,31 @@ pub kept_room : (p : Program) (s : Settings) (past : List Entry) (room room' cap
     → room ≤ room' → capacity ≤ capacity' → IsKept p s past room' capacity' kept taken best
 kept_room p s past room room' capacity capacity' kept taken best k more wider =
     let r : count_by (λ r. is_out_stage r.stage) kept ≤ room = k.room_is in
-    record { legal = k.legal; span = k.span; records = k.records; used = k.used; best_is = k.best_is; room_is = omega (arith, r, more); capacity_is = let cap : length kept + 2 * count_by (λ r. is_out_stage r.stage) kept ≤ capacity = k.capacity_is in omega (arith, cap, wider); outs = k.outs; size = k.size; budget = k.budget; few = k.few }
+    record { legal = k.legal; span_some = k.span_some; span_few = k.span_few; storage = k.storage; records = k.records; used = k.used; best_is = k.best_is; room_is = omega (arith, r, more); capacity_is = let cap : length kept + 2 * count_by (λ r. is_out_stage r.stage) kept ≤ capacity = k.capacity_is in omega (arith, cap, wider); outs = k.outs; size = k.size; budget = k.budget; few = k.few }
 
--- with span 1 a chain is one explicit piece
-pub chain_along-last : (p : Program) (s : Settings) (past : List Entry) (chain : List (Piece Cut)) (ids : List ℕ) (id : ℕ) → s.span ≡ 1
-    → chain_along p s past chain (ids ++ id ∷ []) ≡ Explicit (full_of p past id) ∷ []
-chain_along-last p s past chain [] id e = ap (chained chain) (stored_explicit p s past id e)
-chain_along-last p s past chain (i ∷ ids) id e = chain_along-last p s past (chained chain (stored_of p s past i)) ids id e
+-- pieces that stay as they were give the same chain
+pub chain_along-same : (p : Program) (s : Settings) (past past' : List Entry) → ((k : ℕ) → stored_of p s past' k ≡ stored_of p s past k) → (ids : List ℕ) (chain : List (Piece Cut))
+    → chain_along p s past' chain ids ≡ chain_along p s past chain ids
+chain_along-same p s past past' same [] chain = refl
+chain_along-same p s past past' same (i ∷ ids) chain =
+    ap (λ (q : Piece Cut). chain_along p s past' (chained chain q) ids) (same i) ∙ chain_along-same p s past past' same ids (chained chain (stored_of p s past i))
 
 -- the lease of a node that was just taken
-pub taken_lease : (p : Program) (s : Settings) (history : List Entry) (kept : List Record) (best : Option ℤ) (id seat : ℕ) (r : Record) (desc : Desc Cut)
-    → s.span ≡ 1 → AreRecords p (reverse history) kept → best ≡ value_if (best_of p (reverse history)) → slice_get kept id ≡ Some r → r.piece ≡ Explicit desc
+pub taken_lease : (p : Program) (s : Settings) (history : List Entry) (kept : List Record) (best : Option ℤ) (id seat : ℕ) (r : Record) (chain : List (Piece Cut))
+    → AreRecords p (reverse history) kept → best ≡ value_if (best_of p (reverse history)) → slice_get kept id ≡ Some r
+    → chain ≡ chain_of p s (reverse history) id → rebuilt chain ≡ Some (full_of p (reverse history) id)
     → take_reply p s (reverse history) ≡ gives id
-    → IsTaken (record { problem = p; settings = s; history = history }) seat (record { id = id; depth = r.depth; low = r.low; cutoff = best; chain = Explicit desc ∷ [] })
+    → IsTaken (record { problem = p; settings = s; history = history }) seat (record { id = id; depth = r.depth; low = r.low; cutoff = best; chain = chain })
     (record { problem = p; settings = s; history = history ++ Take seat id ∷ [] })
-taken_lease p s history kept best id seat r desc span rs b e d t =
+taken_lease p s history kept best id seat r chain rs b e is rebuilds t =
     let past : List Entry = reverse history in
     let f = rs.each id r e in
     let self : (id == id) ≡ true = eq-eqb id id refl in
-    let is_full : desc ≡ full_of p past id = (let g : Explicit desc ≡ Explicit (full_of p past id) = sym d ∙ f.piece in cc) in
     let turned : reverse (history ++ Take seat id ∷ []) ≡ Take seat id ∷ past = reverse-push history (Take seat id) in
     let o : state_of (Take seat id ∷ past) id ≡ out seat = cond-true (id == id) (out seat) (state_of past id) self in
     let c : best ≡ cutoff_of p (Take seat id ∷ past) id = b ∙ sym (cond-true (id == id) (value_if (best_of p past)) (cutoff_of p past id) self) in
-    let ch : Explicit desc ∷ [] ≡ chain_of p s (Take seat id ∷ past) id =
-    ap (λ (x : Desc Cut). Explicit x ∷ []) is_full ∙ sym (chain_along-last p s (Take seat id ∷ past) [] (node_at p past id).ancestors id span) in
+    let ch : chain ≡ chain_of p s (Take seat id ∷ past) id =
+    is ∙ sym (chain_along-same p s past (Take seat id ∷ past) (λ k. refl) ((node_at p past id).ancestors ++ id ∷ []) []) in
     record {
       reply = t;
       entry = refl;
@@ -295,7 +264,7 @@ taken_lease p s history kept best id seat r desc span rs b e d t =
         depth = f.depth ∙ ap (λ h. (node_at p h id).depth) (sym turned);
         low = f.low ∙ ap (λ h. (node_at p h id).low) (sym turned);
         cutoff = c ∙ ap (λ h. cutoff_of p h id) (sym turned);
-        chain = ap Some is_full ∙ ap (λ h. Some (full_of p h id)) (sym turned);
+        chain = rebuilds ∙ ap (λ h. Some (full_of p h id)) (sym turned);
       };
       chain = ch ∙ ap (λ h. chain_of p s h id) (sym turned);
     }

@@ -1,4 +1,5 @@
 pub mod Searches
+mod Sets
 pub mod Kept
 pub mod Puts
 pub mod Boxed
@@ -8,3 +9,12 @@ pub mod Standing
 pub mod Lows
 pub mod Roots
 pub mod Waits
+mod Freeings
+mod Stored
+mod Goes
+mod Climbing
+mod Candidates
+mod Covers
+mod Chained
+mod Trees
+mod Recodings

@@ -1,11 +1,14 @@
 -- The low numbers of the live nodes, and the weights of the pieces.
 use Rattle.std.proofs.Common.{◌≡◌, ℕ, zero, suc, ◌+◌, ◌<◌, ◌≤◌, List, [], ◌∷◌, ◌++◌, length, get_or, refl, ap, sym, ◌∙◌, subst, arith, Bool, true, false, cond, not, Some, None, Option, All}
-use Rattle.std.specs.Prelude.{slice_get, take, map, filter, sum_by, reverse, nat_lt, ℤ, ◌||◌, ◌&&◌}
+use Rattle.std.specs.Prelude.{IfSome, slice_get, take, map, filter, sum_by, reverse, nat_lt, ℤ, ◌||◌, ◌&&◌}
 use Rattle.std.specs.Int.{int_min}
 use Rattle.std.proofs.lemmas.List.{take_all, map-append, append-nil}
 use Rattle.std.proofs.lemmas.Bool.{lt-ltb, le-ltb, cond-true, cond-false}
 use Rattle.bl_problem.specs.declared.cut.Cut.{Cut}
 use Rattle.bl_desc.specs.declared.desc.Piece.{Piece}
+use Rattle.bl_desc.specs.declared.desc.Form.{Form}
+use Rattle.bl_desc.specs.declared.desc.Form.TheVariants.{Explicit as ExplicitForm, Relative as RelativeForm}
+use Rattle.bl_desc.proofs.Ranges.{difference_is_short}
 use Rattle.std.proofs.lemmas.List.Elements.{filter-append, filter_more}
 use Rattle.std.proofs.lemmas.List.Sums.{fold-append, sum_by_more, sum_by-append}
 use Rattle.std.proofs.lemmas.Option.{get_or_from_slice_get, slice_get_within}
@@ -15,20 +18,17 @@ use Rattle.bl_journal.specs.declared.entry.Entry.{Entry}
 use Rattle.bl_journal.specs.declared.settings.Settings.{Settings}
 use Rattle.bl_journal.specs.Births.{nodes_of, node_at}
 use Rattle.bl_journal.specs.Descriptions.{full_of}
-use Rattle.bl_journal.specs.States.{State, waiting, out, split, shut, freed, state_of, is_live, is_live_in, is_open, best_of, value_if, Found}
+use Rattle.bl_journal.specs.States.{form_of, State, waiting, out, split, shut, freed, state_of, is_live, is_live_in, is_open, best_of, value_if, Found}
 use Rattle.bl_journal.specs.Replies.{ids_below, is_waiting, is_out}
-use Rattle.bl_journal.specs.Pieces.{stored_of, held_of, is_freed}
+use Rattle.bl_journal.specs.Pieces.{stored_of, piece_in, difference_from, held_of, is_freed}
 use Rattle.bl_journal.specs.Results.{live_ids, lows_of, answer_of, answer_for}
 use Rattle.bl_tree.specs.declared.record.Record.{Record}
-use Rattle.bl_tree.specs.declared.record.Stage.{Stage}
-use Rattle.bl_tree.specs.declared.record.Stage.TheVariants.{Waiting, Out, Parted, Closed, Gone}
-use Rattle.bl_tree.specs.Records.{stage_state, is_out_stage, waits, lives, live_lows, least_if, least_with, is_kept_stage, record_weight, piece_if, AreRecords, IsRecordOf}
+use Rattle.bl_tree.specs.Records.{is_out_stage, waits, lives, live_lows, least_if, least_with, weight_if, piece_if, AreRecords, AreStored, IsRecordOf}
 use Rattle.bl_journal.specs.Legality.{IsLegalPast}
 use Rattle.bl_journal.proofs.Sums.{total}
-use Rattle.bl_journal.proofs.Lines.{full_whole, full_columns, full_rows}
+use Rattle.bl_journal.proofs.Lines.{IsChildOf, lines, full_whole, full_columns, full_rows}
 use Rattle.bl_journal.proofs.Workable.{cuts_fine}
 use Rattle.bl_tree.specs.Answers.{stored_for, verdict_from}
-use Rattle.bl_journal.proofs.Births.{stored_explicit}
 use Rattle.bl_tree.proofs.Kept.{has_record, waits_same, out_same}
 
 -- one more low number
@@ -104,16 +104,6 @@ lows_same p past kept best b rs =
     let whole : take (length kept) kept ≡ kept = take_all (length kept) kept (omega arith) in
     ap (live_lows best) (sym whole) ∙ (lows_below p past kept best b rs (length kept) (omega arith) ∙ ap (λ (n : ℕ). lows_of p past (filter (is_live p past) (ids_below n))) rs.count)
 
-freed_same : (t : Stage) → is_kept_stage t ≡ not (is_freed (stage_state t))
-freed_same Waiting = refl
-freed_same (Out seat) = refl
-freed_same Parted = refl
-freed_same Closed = refl
-freed_same Gone = refl
-
-kept_same : (p : Program) (past : List Entry) (i : ℕ) (r : Record) → IsRecordOf p past i r → is_kept_stage r.stage ≡ not (is_freed (state_of past i))
-kept_same p past i r f = freed_same r.stage ∙ ap (λ (s : State). not (is_freed s)) f.stage
-
 -- the weight of the node's piece, 0 where it is freed
 share : Program → Settings → List Entry → ℕ → ℕ
 share p s past id = cond (not (is_freed (state_of past id))) (weight_of (stored_of p s past id)) 0
@@ -131,29 +121,33 @@ sum_filtered p s past (suc n) =
     by_test true = omega arith
     by_test false = refl
 
-weights_below : (p : Program) (s : Settings) (past : List Entry) (kept : List Record) → s.span ≡ 1 → AreRecords p past kept → (n : ℕ) → n ≤ length kept → sum_by record_weight (take n kept) ≡ total (share p s past) n
+weights_below : (p : Program) (s : Settings) (past : List Entry) (kept : List Record) → AreRecords p past kept → AreStored p s past kept → (n : ℕ) → n ≤ length kept
+    → sum_by (λ (r : Record). weight_if r.piece) (take n kept) ≡ total (share p s past) n
 unfolding share
-weights_below p s past kept span rs zero h = refl
-weights_below p s past kept span rs (suc n) h =
+weights_below p s past kept rs st zero h = refl
+weights_below p s past kept rs st (suc n) h =
+    let f : Record → ℕ = λ r. weight_if r.piece in
     let within : n < length kept = omega (arith, h) in
     let x = has_record p past kept n rs within in
     let is : get_or kept n x.0 ≡ x.0 = get_or_from_slice_get kept n x.0 x.0 x.1 in
-    let f : IsRecordOf p past n x.0 = rs.each n x.0 x.1 in
-    let ih : sum_by record_weight (take n kept) ≡ total (share p s past) n = weights_below p s past kept span rs n (omega (arith, h)) in
-    let more : sum_by record_weight (take (n + 1) kept) ≡ sum_by record_weight (take n kept) + record_weight (get_or kept n x.0) = sum_by_more record_weight kept n x.0 within in
-    let piece : x.0.piece ≡ stored_of p s past n = f.piece ∙ sym (stored_explicit p s past n span) in
-    let here : record_weight x.0 ≡ cond (not (is_freed (state_of past n))) (weight_of (stored_of p s past n)) 0 =
-    ap (λ (b : Bool). cond b (weight_of x.0.piece) 0) (kept_same p past n x.0 f) ∙ ap (λ (q : Piece Cut). cond (not (is_freed (state_of past n))) (weight_of q) 0) piece in
-    let at : record_weight (get_or kept n x.0) ≡ cond (not (is_freed (state_of past n))) (weight_of (stored_of p s past n)) 0 = ap record_weight is ∙ here in
+    let ih : sum_by f (take n kept) ≡ total (share p s past) n = weights_below p s past kept rs st n (omega (arith, h)) in
+    let more : sum_by f (take (n + 1) kept) ≡ sum_by f (take n kept) + f (get_or kept n x.0) = sum_by_more f kept n x.0 within in
+    let here : f x.0 ≡ cond (not (is_freed (state_of past n))) (weight_of (stored_of p s past n)) 0 =
+    ap weight_if (st n x.0 x.1).piece ∙ by_test (is_freed (state_of past n)) (stored_of p s past n) in
+    let at : f (get_or kept n x.0) ≡ cond (not (is_freed (state_of past n))) (weight_of (stored_of p s past n)) 0 = ap f is ∙ here in
     let next : n + 1 ≡ suc n = omega arith in
-    subst (λ (m : ℕ). sum_by record_weight (take m kept) ≡ total (share p s past) (suc n)) next (more ∙ (ap (λ (m : ℕ). m + record_weight (get_or kept n x.0)) ih ∙ ap (λ (m : ℕ). total (share p s past) n + m) at))
+    subst (λ (m : ℕ). sum_by (λ (r : Record). weight_if r.piece) (take m kept) ≡ total (share p s past) (suc n)) next (more ∙ (ap (λ (m : ℕ). m + f (get_or kept n x.0)) ih ∙ ap (λ (m : ℕ). total (share p s past) n + m) at))
+  where
+    by_test : (b : Bool) (q : Piece Cut) → weight_if (cond b None (Some q)) ≡ cond (not b) (weight_of q) 0
+    by_test true q = refl
+    by_test false q = refl
 
 -- the weight of the records' pieces is that of the history
-pub weights_same : (p : Program) (s : Settings) (past : List Entry) (kept : List Record) → s.span ≡ 1 → AreRecords p past kept → sum_by record_weight kept ≡ held_of p s past
+pub weights_same : (p : Program) (s : Settings) (past : List Entry) (kept : List Record) → AreRecords p past kept → AreStored p s past kept → sum_by (λ (r : Record). weight_if r.piece) kept ≡ held_of p s past
 unfolding held_of
-weights_same p s past kept span rs =
+weights_same p s past kept rs st =
     let whole : take (length kept) kept ≡ kept = take_all (length kept) kept (omega arith) in
-    ap (sum_by record_weight) (sym whole) ∙ (weights_below p s past kept span rs (length kept) (omega arith)
+    ap (sum_by (λ (r : Record). weight_if r.piece)) (sym whole) ∙ (weights_below p s past kept rs st (length kept) (omega arith)
     ∙ (ap (total (share p s past)) rs.count ∙ sym (sum_filtered p s past (length (nodes_of p past)))))
 
 slice_get_none : {X : Type 0} (xs : List X) (i : ℕ) → slice_get xs i ≡ None → length xs ≤ i
@@ -162,23 +156,10 @@ slice_get_none (x ∷ xs) zero e = cc
 slice_get_none (x ∷ xs) (suc i) e = let h : length xs ≤ i = slice_get_none xs i e in omega (arith, h)
 
 -- what is stored of a node is its record's piece
-pub stored_same : (p : Program) (s : Settings) (history : List Entry) (kept : List Record) (id : ℕ) → s.span ≡ 1 → AreRecords p (reverse history) kept
+pub stored_same : (p : Program) (s : Settings) (history : List Entry) (kept : List Record) (id : ℕ) → AreRecords p (reverse history) kept → AreStored p s (reverse history) kept
     → piece_if (slice_get kept id) ≡ stored_for (record { problem = p; settings = s; history = history }) id
-stored_same p s history kept id span rs = by_option (slice_get kept id) refl
+stored_same p s history kept id rs st = by_option (slice_get kept id) refl
   where
-    past : List Entry
-    past = reverse history
-
-    inner : (r : Record) → IsRecordOf p (reverse history) id r → cond (is_kept_stage r.stage) (Some r.piece) None ≡ cond (is_freed (state_of (reverse history) id)) None (Some (stored_of p s (reverse history) id))
-    inner r f =
-        let piece : r.piece ≡ stored_of p s (reverse history) id = f.piece ∙ sym (stored_explicit p s (reverse history) id span) in
-        ap (λ (b : Bool). cond b (Some r.piece) None) (kept_same p (reverse history) id r f) ∙ (turned (is_freed (state_of (reverse history) id)) r.piece
-        ∙ ap (λ (q : Piece Cut). cond (is_freed (state_of (reverse history) id)) None (Some q)) piece)
-      where
-        turned : (b : Bool) (q : Piece Cut) → cond (not b) (Some q) None ≡ cond b None (Some q)
-        turned true q = refl
-        turned false q = refl
-
     by_option : (o : Option Record) → slice_get kept id ≡ o → piece_if o ≡ stored_for (record { problem = p; settings = s; history = history }) id
     by_option None e =
         let out_of : length kept ≤ id = slice_get_none kept id e in
@@ -189,7 +170,7 @@ stored_same p s history kept id span rs = by_option (slice_get kept id) refl
         let h : id < length kept = slice_get_within kept id r e in
         let c : length kept ≡ length (nodes_of p (reverse history)) = rs.count in
         let t : nat_lt id (length (nodes_of p (reverse history))) ≡ true = lt-ltb id (length (nodes_of p (reverse history))) (omega (arith, h, c)) in
-        inner r (rs.each id r e) ∙ sym (cond-true _ _ _ t)
+        (st id r e).piece ∙ sym (cond-true _ _ _ t)
 
 -- the answer that the records give is that of the history
 pub answer_same : (p : Program) (past : List Entry) (kept : List Record) (value : Option ℤ) (best : Option Found) (least : Option ℤ) → value ≡ value_if (best_of p past) → AreRecords p past kept
@@ -203,28 +184,54 @@ answer_same p past kept value best least v rs b l =
     by_list f [] = refl
     by_list f (low ∷ lows) = refl
 
--- the lists of each piece are short
-pub pieces_short : (p : Program) (s : Settings) (past : List Entry) (kept : List Record) → IsLegalPast p s past → IsProgram p → AreRecords p past kept → All (λ (r : Record). HasShortLists r.piece) kept
-pieces_short p s past kept l w rs = λ k d h.
-    let x = has_record p past kept k rs h in
-    let is : get_or kept k d ≡ x.0 = get_or_from_slice_get kept k x.0 d x.1 in
-    let f : IsRecordOf p past k x.0 = rs.each k x.0 x.1 in
-    let c : length kept ≡ length (nodes_of p past) = rs.count in
-    subst (λ (q : Record). HasShortLists q.piece) (sym is) (subst (λ (q : Piece Cut). HasShortLists q) (sym f.piece) (short k (omega (arith, h, c))))
+-- the lists of each description are short
+descs_short : (p : Program) (s : Settings) (past : List Entry) → IsLegalPast p s past → IsProgram p → (k : ℕ) → k < length (nodes_of p past) → DescHasShortLists (full_of p past k)
+descs_short p s past l w k h =
+    let whole = full_whole p past k in
+    let columns = full_columns p past k in
+    let rows = full_rows p past k in
+    let few = (cuts_fine p s past l k h).few in
+    let wide = w.few_columns in
+    let long = w.few_rows in
+    record {
+      lows = omega (arith, columns, wide);
+      highs = omega (arith, whole.highs, columns, wide);
+      cuts = omega (arith, few);
+      columns = omega (arith, whole.columns, columns, wide);
+      rows = omega (arith, rows, long);
+      cut_status = omega (arith, whole.cuts, few);
+    }
+
+-- the lists of what is stored are short
+stored_short : (p : Program) (s : Settings) (past : List Entry) → IsLegalPast p s past → IsProgram p → (k : ℕ) → k < length (nodes_of p past) → HasShortLists (stored_of p s past k)
+stored_short p s past l w k h = by_form (form_of p s past k)
   where
-    short : (k : ℕ) → k < length (nodes_of p past) → DescHasShortLists (full_of p past k)
-    short k h =
-        let whole = full_whole p past k in
-        let columns = full_columns p past k in
-        let rows = full_rows p past k in
-        let few = (cuts_fine p s past l k h).few in
+    by_parent : (o : Option ℕ) → IfSome o (λ q. IsChildOf p (node_at p past q) q k (node_at p past k)) → HasShortLists (difference_from p past o (full_of p past k))
+    by_parent None line = descs_short p s past l w k h
+    by_parent (Some q) line =
+        let below : q < k = line.below in
+        let columns = full_columns p past q in
+        let rows = full_rows p past q in
         let wide = w.few_columns in
         let long = w.few_rows in
-        record {
-          lows = omega (arith, columns, wide);
-          highs = omega (arith, whole.highs, columns, wide);
-          cuts = omega (arith, few);
-          columns = omega (arith, whole.columns, columns, wide);
-          rows = omega (arith, rows, long);
-          cut_status = omega (arith, whole.cuts, few);
-        }
+        let parent = (cuts_fine p s past l q (omega (arith, below, h))).few in
+        let child = (cuts_fine p s past l k h).few in
+        difference_is_short (λ (c : Cut). c.id) (full_of p past q) (full_of p past k) (full_whole p past q) line.part
+        (omega (arith, columns, wide)) (omega (arith, rows, long)) (omega (arith, parent)) (omega (arith, child))
+
+    by_form : (f : Form) → HasShortLists (piece_in p past k f)
+    by_form ExplicitForm = descs_short p s past l w k h
+    by_form RelativeForm = by_parent (node_at p past k).parent (lines p s past l k h)
+
+-- the lists of each record's piece are short
+pub pieces_short : (p : Program) (s : Settings) (past : List Entry) (kept : List Record) → IsLegalPast p s past → IsProgram p → AreRecords p past kept → AreStored p s past kept → All (λ (r : Record). IfSome r.piece HasShortLists) kept
+pieces_short p s past kept l w rs st = λ k d h.
+    let x = has_record p past kept k rs h in
+    let is : get_or kept k d ≡ x.0 = get_or_from_slice_get kept k x.0 d x.1 in
+    let c : length kept ≡ length (nodes_of p past) = rs.count in
+    subst (λ (q : Record). IfSome q.piece HasShortLists) (sym is)
+    (subst (λ (o : Option (Piece Cut)). IfSome o HasShortLists) (sym (st k x.0 x.1).piece) (by_test (is_freed (state_of past k)) (stored_of p s past k) (stored_short p s past l w k (omega (arith, h, c)))))
+  where
+    by_test : (b : Bool) (q : Piece Cut) → HasShortLists q → IfSome (cond b None (Some q)) HasShortLists
+    by_test true q f = tt
+    by_test false q f = f

@@ -10,13 +10,15 @@ use Rattle.bl_tree.specs.declared.record.Record.{Record}
 use Rattle.bl_journal.specs.Replies.{reply_for, first_below, preferred, any_out, any_below, is_waiting, take_reply, gives}
 use Rattle.bl_tree.specs.Records.{stage_state, fresh_record, is_out_stage, is_waiting_stage, is_out_if, waits_if, precedes_if, IsKept, waiting_from, first_among}
 use Rattle.bl_problem.specs.declared.cut.Cut.{Cut}
-use Rattle.bl_desc.specs.declared.desc.Desc.{Desc}
+use Rattle.bl_desc.specs.declared.desc.Piece.{Piece}
 use Rattle.bl_journal.specs.States.{out, state_of}
 use Rattle.bl_journal.proofs.Sums.{one_if}
 use Rattle.bl_journal.proofs.Living.{take_gives}
 use Rattle.bl_tree.specs.declared.record.Stage.{Stage}
 use Rattle.bl_tree.specs.declared.record.Stage.TheVariants.{Waiting, Out, Parted, Closed, Gone}
-use Rattle.bl_tree.proofs.Kept.{kept_reply, any_out_same, kept_out, kept_born, has_record, count_by-set}
+use Rattle.bl_tree.proofs.Sets.{count_by-set}
+use Rattle.bl_tree.proofs.Puts.{parted}
+use Rattle.bl_tree.proofs.Kept.{kept_reply, any_out_same, kept_out, kept_born, has_record}
 
 -- one more number, or none, on both sides
 append_if : (t : Bool) (n : ℕ) (a b c : List ℕ) → a ≡ b ++ c → cond t (n ∷ a) a ≡ cond t (n ∷ b) b ++ c
@@ -275,19 +277,19 @@ waits_shut p s past room capacity kept taken best id seat r waiting outs k o e w
     waits_ended p s past room capacity kept taken best id seat r (record r { stage = Closed }) waiting outs k o e w refl refl
 
 -- after a put that splits
-pub waits_split : (p : Program) (s : Settings) (past : List Entry) (room capacity : ℕ) (kept one two : List Record) (taken : ℕ) (best : Option ℤ) (id seat n depth : ℕ) (low : ℤ) (ld rd : Desc Cut) (r r1 r2 : Record)
+pub waits_split : (p : Program) (s : Settings) (past : List Entry) (room capacity : ℕ) (kept one two : List Record) (taken : ℕ) (best : Option ℤ) (id seat n depth : ℕ) (low : ℤ) (lo ro : Bool) (left right : Piece Cut) (r r1 r2 : Record)
     (waiting waiting' : List ℕ) (outs : ℕ)
     → IsKept p s past room capacity kept taken best → state_of past id ≡ out seat → slice_get kept id ≡ Some r → WaitsAre kept waiting outs
-    → r1 ≡ fresh_record depth low ld → r2 ≡ fresh_record depth low rd → one ≡ slice_set kept id (record r { stage = Parted }) ++ r1 ∷ [] → two ≡ one ++ r2 ∷ []
+    → r1 ≡ fresh_record id depth low lo left → r2 ≡ fresh_record id depth low ro right → one ≡ slice_set kept id (parted n r) ++ r1 ∷ [] → two ≡ one ++ r2 ∷ []
     → n ≡ length kept → waiting' ≡ waiting ++ n ∷ (n + 1) ∷ []
     → WaitsAre two waiting' (outs - 1)
-waits_split p s past room capacity kept one two taken best id seat n depth low ld rd r r1 r2 waiting waiting' outs k o e w e1 e2 ones twos at made =
-    let set : List Record = slice_set kept id (record r { stage = Parted }) in
-    let w1 : WaitsAre set waiting (outs - 1) = waits_ended p s past room capacity kept taken best id seat r (record r { stage = Parted }) waiting outs k o e w refl refl in
-    let new : List Record = fresh_record depth low ld ∷ fresh_record depth low rd ∷ [] in
+waits_split p s past room capacity kept one two taken best id seat n depth low lo ro left right r r1 r2 waiting waiting' outs k o e w e1 e2 ones twos at made =
+    let set : List Record = slice_set kept id (parted n r) in
+    let w1 : WaitsAre set waiting (outs - 1) = waits_ended p s past room capacity kept taken best id seat r (parted n r) waiting outs k o e w refl refl in
+    let new : List Record = fresh_record id depth low lo left ∷ fresh_record id depth low ro right ∷ [] in
     let all : two ≡ set ++ new =
-    twos ∙ (ap (λ l. l ++ r2 ∷ []) ones ∙ (append_assoc set (r1 ∷ []) (r2 ∷ []) ∙ (ap (λ x. set ++ x ∷ r2 ∷ []) e1 ∙ ap (λ x. set ++ fresh_record depth low ld ∷ x ∷ []) e2))) in
-    let len : length set ≡ length kept = length-set kept id (record r { stage = Parted }) in
+    twos ∙ (ap (λ l. l ++ r2 ∷ []) ones ∙ (append_assoc set (r1 ∷ []) (r2 ∷ []) ∙ (ap (λ x. set ++ x ∷ r2 ∷ []) e1 ∙ ap (λ x. set ++ fresh_record id depth low lo left ∷ x ∷ []) e2))) in
+    let len : length set ≡ length kept = length-set kept id (parted n r) in
     let first : n ≡ 0 + length set = omega (arith, len, at) in
     let second : n + 1 ≡ suc (0 + length set) = omega (arith, len, at) in
     let c : count_by (λ r. is_out_stage r.stage) (set ++ new) ≡ count_by (λ r. is_out_stage r.stage) set + 0 = sum_by-append (λ (q : Record). one_if (is_out_stage q.stage)) set new in

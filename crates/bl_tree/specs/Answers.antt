@@ -1,16 +1,20 @@
 -- What the calls of a tree answer.
-use Rattle.std.specs.Prelude.{ℕ, ◌+◌, ◌<◌, ℤ, length, filter, Option, Some, None, if◌then◌else◌, nat_lt}
+use Rattle.std.specs.Prelude.{ℕ, Bool, false, ◌+◌, ◌<◌, ℤ, length, filter, Option, Some, None, if◌then◌else◌, nat_lt}
 use Rattle.bl_problem.specs.declared.cut.Cut.{Cut}
 use Rattle.bl_desc.specs.declared.desc.Piece.{Piece}
+use Rattle.bl_desc.specs.declared.desc.Form.{Form}
+use Rattle.bl_desc.specs.declared.desc.Form.TheVariants.{Explicit, Relative}
 use Rattle.bl_journal.specs.declared.outcome.Next.{Next}
 use Rattle.bl_journal.specs.declared.outcome.Next.TheVariants.{Shut, Split}
 use Rattle.bl_tree.specs.declared.answer.Born.{Born}
 use Rattle.bl_tree.specs.declared.answer.Best.{Best}
 use Rattle.bl_tree.specs.declared.answer.Glance.{Glance}
+use Rattle.bl_tree.specs.declared.answer.Recoded.{Recoded}
+use Rattle.bl_tree.specs.declared.answer.Recoded.TheVariants.{Made, Same, Fixed, Gone}
 use Rattle.bl_tree.specs.declared.answer.Answer.{Answer}
 use Rattle.bl_tree.specs.declared.answer.Answer.TheVariants.{Optimal, Infeasible, Bounded}
-use Rattle.bl_journal.specs.Births.{nodes_of}
-use Rattle.bl_journal.specs.States.{state_of, Found, best_of, value_if, used_of}
+use Rattle.bl_journal.specs.Births.{nodes_of, node_at}
+use Rattle.bl_journal.specs.States.{state_of, Found, best_of, value_if, used_of, form_of, is_spanned}
 use Rattle.bl_journal.specs.Replies.{ids_of, is_out}
 use Rattle.bl_journal.specs.Pieces.{stored_of, held_of, is_freed}
 use Rattle.bl_journal.specs.Results.{Verdict, optimal, infeasible, bounded, answer_of, final, lesser_of}
@@ -60,3 +64,25 @@ glance_for t =
       out = length (filter (λ id. is_out (state_of (past_of t) id)) (ids_of t.problem (past_of t)));
       best = value_if (best_of t.problem (past_of t));
     }
+
+abbrev pub is_freed_if : TreeView → Option ℕ → Bool
+is_freed_if t None = false
+is_freed_if t (Some id) = is_freed (state_of (past_of t) id)
+
+-- a relative form is asked of an explicit node
+abbrev pub related_for : TreeView → ℕ → Recoded
+related_for t id =
+    if is_spanned t.problem t.settings (past_of t) id
+    then Fixed
+    else (if is_freed_if t (node_at t.problem (past_of t) id).parent then Gone else Made)
+
+abbrev pub recoded_from : TreeView → ℕ → Form → Form → Recoded
+recoded_from t id Explicit Explicit = Same
+recoded_from t id Relative Relative = Same
+recoded_from t id Relative Explicit = Made
+recoded_from t id Explicit Relative = related_for t id
+
+-- Gone where the node is freed; else Same where it has the form; else Fixed where Relative is asked and the span divides its depth; else Gone where Relative is asked and its parent is freed; else Made
+abbrev pub recoded_for : TreeView → ℕ → Form → Recoded
+recoded_for t id form =
+    if is_freed (state_of (past_of t) id) then Gone else recoded_from t id (form_of t.problem t.settings (past_of t) id) form

@@ -1,10 +1,17 @@
 -- What the calls of a tree answer, and what they leave.
-use Rattle.std.specs.Prelude.{◌≡◌, ℕ}
-use Rattle.bl_journal.specs.declared.entry.Entry.TheVariants.{Take}
+use Rattle.std.specs.Prelude.{◌≡◌, ◌<◌, ℕ}
+use Rattle.bl_desc.specs.declared.desc.Form.{Form}
+use Rattle.bl_journal.specs.declared.entry.Entry.TheVariants.{Take, Encode, Free}
+use Rattle.bl_tree.specs.declared.answer.Freed.{Freed}
+use Rattle.bl_tree.specs.declared.answer.Freed.TheVariants.{Chain, Nothing}
+use Rattle.bl_tree.specs.declared.answer.Recoded.{Recoded}
+use Rattle.bl_tree.specs.declared.answer.Recoded.TheVariants.{Made, Same, Fixed, Gone}
 use Rattle.bl_tree.specs.declared.lease.Taken.{Taken}
 use Rattle.bl_tree.specs.declared.lease.Taken.TheVariants.{Node, Idle, Done, Spent}
 use Rattle.bl_journal.specs.Replies.{take_reply, gives, idle, done, spent}
 use Rattle.bl_journal.specs.Pieces.{chain_of}
+use Rattle.bl_journal.specs.Freeing.{IsFreeChain, HasNothingToFree, standing_of}
+use Rattle.bl_tree.specs.Answers.{recoded_for}
 use Rattle.bl_tree.specs.Views.{TreeView, past_of, extended, LeaseView, IsLeaseOf}
 
 -- a lease that was just taken
@@ -19,3 +26,19 @@ Takes old seat (Node lease) new = IsTaken old seat lease new
 Takes old seat Idle new = (take_reply old.problem old.settings (past_of old) ≡ idle) × (new ≡ old)
 Takes old seat Done new = (take_reply old.problem old.settings (past_of old) ≡ done) × (new ≡ old)
 Takes old seat Spent new = (take_reply old.problem old.settings (past_of old) ≡ spent) × (new ≡ old)
+
+-- the least node that may be freed and then each parent in turn are freed, and fewer nodes stand; or none may be freed
+abbrev pub Frees : TreeView → ℕ → Freed → TreeView → Type 0
+Frees old seat (Chain ids) new =
+    IsFreeChain old.problem old.settings (past_of old) ids × (new ≡ extended old (Free seat ids))
+    × (standing_of new.problem (past_of new) < standing_of old.problem (past_of old))
+Frees old seat Nothing new = HasNothingToFree old.problem old.settings (past_of old) × (new ≡ old)
+
+abbrev pub recoded : TreeView → ℕ → ℕ → Form → Recoded → TreeView
+recoded t seat id form Made = extended t (Encode seat id form)
+recoded t seat id form Same = t
+recoded t seat id form Fixed = t
+recoded t seat id form Gone = t
+
+abbrev pub Recodes : TreeView → ℕ → ℕ → Form → Recoded → TreeView → Type 0
+Recodes old seat id form answer new = (answer ≡ recoded_for old id form) × (new ≡ recoded old seat id form answer)

@@ -2,3 +2,4 @@ pub mod Views
 pub mod Records
 pub mod Calls
 pub mod Answers
+pub mod Chains

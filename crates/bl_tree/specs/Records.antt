@@ -1,5 +1,6 @@
 -- What the tree keeps of its nodes, and how that follows its history.
-use Rattle.std.specs.Prelude.{map, filter, fold, ◌≡◌, ℕ, suc, ◌+◌, ◌*◌, ◌≤◌, ℤ, int_lt, Bool, true, false, ◌&&◌, ◌||◌, nat_lt, ◌==◌, List, [], ◌∷◌, length, count_by, slice_get, Option, Some, None, reverse, if◌then◌else◌}
+use Rattle.std.specs.Prelude.{map, filter, fold, ◌≡◌, ℕ, suc, ◌+◌, ◌*◌, ◌≤◌, ◌<◌, ℤ, int_lt, Bool, true, false, not, ◌&&◌, ◌||◌, nat_lt, ◌==◌, List, [], ◌∷◌, length, count_by, slice_get, slice_set, IfSome, Option, Some, None, reverse, if◌then◌else◌}
+use Rattle.bl_mods.specs.Mods.{is_among}
 use Rattle.std.specs.Int.{int_min}
 use Rattle.bl_problem.specs.Program.{Program}
 use Rattle.bl_problem.specs.declared.cut.Cut.{Cut}
@@ -20,7 +21,9 @@ use Rattle.bl_journal.specs.Births.{nodes_of, node_at}
 use Rattle.bl_journal.specs.Descriptions.{full_of}
 use Rattle.bl_journal.specs.States.{State, waiting, out, split, shut, freed, state_of, has_point, used_of, best_of, value_if, Found}
 use Rattle.bl_journal.specs.Legality.{IsLegalPast}
-use Rattle.bl_journal.specs.Replies.{preferred}
+use Rattle.bl_journal.specs.Replies.{preferred, is_waiting}
+use Rattle.bl_journal.specs.Pieces.{is_freed, stored_of}
+use Rattle.bl_journal.specs.Freeing.{is_parent, is_freeable}
 
 abbrev pub stage_state : Stage → State
 stage_state Waiting = waiting
@@ -73,13 +76,49 @@ best_value_with p best None = best
 best_value_with p None (Some x) = Some (value_of p x)
 best_value_with p (Some b) (Some x) = if int_lt (value_of p x) b then Some (value_of p x) else Some b
 
-abbrev pub is_explicit_piece : Piece Cut → Bool
-is_explicit_piece (Explicit d) = true
-is_explicit_piece (Relative c) = false
+-- the record of a new child
+abbrev pub fresh_record : ℕ → ℕ → ℤ → Bool → Piece Cut → Record
+fresh_record parent depth low open_box piece =
+    record { parent = Some parent; children = None; depth = depth; low = low; stage = Waiting; has_point = open_box; piece = Some piece }
 
--- the record of a new node
-abbrev pub fresh_record : ℕ → ℤ → Desc Cut → Record
-fresh_record n l d = record { depth = n; low = l; stage = Waiting; has_point = has_point d.lows d.highs; piece = Explicit d }
+abbrev pub box_has_point : Desc Cut → Bool
+box_has_point d = has_point d.lows d.highs
+
+-- the record of the root
+abbrev pub root_record : ℤ → Desc Cut → Record
+root_record low d =
+    record { parent = None; children = None; depth = 0; low = low; stage = Waiting; has_point = box_has_point d; piece = Some (Explicit d) }
+
+-- the node is one of the two children, of which the first is known
+abbrev pub is_child_in : Option ℕ → ℕ → Bool
+is_child_in None q = false
+is_child_in (Some c) q = q == c || q == c + 1
+
+abbrev pub has_children : Option ℕ → Bool
+has_children None = false
+has_children (Some c) = true
+
+abbrev pub was_parted : Stage → Bool
+was_parted Waiting = false
+was_parted (Out seat) = false
+was_parted Parted = true
+was_parted Closed = false
+was_parted Gone = true
+
+-- what is stored of the node; nothing where it is freed
+abbrev pub piece_at : Program → Settings → List Entry → ℕ → Option (Piece Cut)
+piece_at p s past id = if is_freed (state_of past id) then None else Some (stored_of p s past id)
+
+-- how the node is stored, and where its parent and its children are
+pub record IsStoredOf (p : Program) (s : Settings) (past : List Entry) (id : ℕ) (r : Record) : Type 0 where
+  pub parent : r.parent ≡ (node_at p past id).parent
+  pub children : (q : ℕ) → q < length (nodes_of p past) → is_parent (node_at p past q).parent id ≡ is_child_in r.children q
+  pub within : IfSome r.children (λ c. c + 1 < length (nodes_of p past))
+  pub parted : has_children r.children ≡ true → was_parted r.stage ≡ true
+  pub piece : r.piece ≡ piece_at p s past id
+
+abbrev pub AreStored : Program → Settings → List Entry → List Record → Type 0
+AreStored p s past records = (id : ℕ) (r : Record) → slice_get records id ≡ Some r → IsStoredOf p s past id r
 
 -- the record of the node
 pub record IsRecordOf (p : Program) (past : List Entry) (id : ℕ) (r : Record) : Type 0 where
@@ -87,7 +126,6 @@ pub record IsRecordOf (p : Program) (past : List Entry) (id : ℕ) (r : Record) 
   pub low : r.low ≡ (node_at p past id).low
   pub stage : stage_state r.stage ≡ state_of past id
   pub has_point : r.has_point ≡ has_point (full_of p past id).lows (full_of p past id).highs
-  pub piece : r.piece ≡ Explicit (full_of p past id)
 
 pub record AreRecords (p : Program) (past : List Entry) (records : List Record) : Type 0 where
   pub count : length records ≡ length (nodes_of p past)
@@ -95,8 +133,10 @@ pub record AreRecords (p : Program) (past : List Entry) (records : List Record) 
 
 pub record IsKept (p : Program) (s : Settings) (past : List Entry) (room capacity : ℕ) (kept : List Record) (taken : ℕ) (best : Option ℤ) : Type 0 where
   pub legal : IsLegalPast p s past
-  pub span : s.span ≡ 1
+  pub span_some : 0 < s.span
+  pub span_few : s.span ≤ 64
   pub records : AreRecords p past kept
+  pub storage : AreStored p s past kept
   pub used : taken ≡ used_of past
   pub best_is : best ≡ value_if (best_of p past)
   pub room_is : count_by (λ r. is_out_stage r.stage) kept ≤ room
@@ -151,21 +191,125 @@ abbrev pub least_with : Option ℤ → ℤ → Option ℤ
 least_with None low = Some low
 least_with (Some least) low = Some (int_min least low)
 
-abbrev pub is_kept_stage : Stage → Bool
-is_kept_stage Waiting = true
-is_kept_stage (Out seat) = true
-is_kept_stage Parted = true
-is_kept_stage Closed = true
-is_kept_stage Gone = false
+-- the weight of a piece, 0 where there is none
+abbrev pub weight_if : Option (Piece Cut) → ℕ
+weight_if None = 0
+weight_if (Some piece) = weight_of piece
 
--- the weight of a record's piece, 0 where the node is freed
-abbrev pub record_weight : Record → ℕ
-record_weight r = if is_kept_stage r.stage then weight_of r.piece else 0
-
--- the piece of a record, where its node is not freed
+-- the piece of a record, if there is one
 abbrev pub piece_if : Option Record → Option (Piece Cut)
 piece_if None = None
-piece_if (Some r) = if is_kept_stage r.stage then Some r.piece else None
+piece_if (Some r) = r.piece
+
+abbrev pub is_relative : Option (Piece Cut) → Bool
+is_relative None = false
+is_relative (Some (Explicit d)) = false
+is_relative (Some (Relative c)) = true
+
+-- the node is not freed and relative
+abbrev pub holds_if : Option Record → Bool
+holds_if None = false
+holds_if (Some r) = is_relative r.piece
+
+-- one of the two children holds its parent
+abbrev pub is_held : List Record → Option ℕ → Bool
+is_held records None = false
+is_held records (Some c) = holds_if (slice_get records c) || holds_if (slice_get records (c + 1))
+
+abbrev pub is_over_stage : Stage → Bool → Bool
+is_over_stage Waiting open_node = not open_node
+is_over_stage (Out seat) open_node = false
+is_over_stage Parted open_node = true
+is_over_stage Closed open_node = true
+is_over_stage Gone open_node = false
+
+-- the record's node may be freed
+abbrev pub may_go : Option ℤ → List Record → Record → Bool
+may_go best records r = is_over_stage r.stage (r.has_point && is_below_value r.low best) && not (is_held records r.children)
+
+abbrev pub may_go_if : Option ℤ → List Record → Option Record → Bool
+may_go_if best records None = false
+may_go_if best records (Some r) = may_go best records r
+
+-- the node with this number may be freed
+abbrev pub may_go_at : Option ℤ → List Record → ℕ → Bool
+may_go_at best records id = may_go_if best records (slice_get records id)
+
+abbrev pub lesser_id : Option ℕ → ℕ → ℕ
+lesser_id None i = i
+lesser_id (Some k) i = if nat_lt i k then i else k
+
+-- the least of those that may be freed, and of the one that is known
+abbrev pub least_to_go : Option ℤ → List Record → Option ℕ → List ℕ → Option ℕ
+least_to_go best records first ids = fold (λ least i. if may_go_at best records i then Some (lesser_id least i) else least) first ids
+
+-- the records after a node is stored as this piece
+abbrev pub stored_if : List Record → ℕ → Piece Cut → Option Record → List Record
+stored_if records id piece None = records
+stored_if records id piece (Some r) = slice_set records id (record r { piece = Some piece })
+
+abbrev pub stored_at : List Record → ℕ → Piece Cut → List Record
+stored_at records id piece = stored_if records id piece (slice_get records id)
+
+abbrev pub option_to_list : Option ℕ → List ℕ
+option_to_list None = []
+option_to_list (Some id) = id ∷ []
+
+-- the record of a freed node
+abbrev pub gone_record : Record → Record
+gone_record r = record r { stage = Gone; piece = None }
+
+abbrev pub gone_if : List Record → ℕ → Option Record → List Record
+gone_if records id None = records
+gone_if records id (Some r) = slice_set records id (gone_record r)
+
+abbrev pub gone_at : List Record → ℕ → List Record
+gone_at records id = gone_if records id (slice_get records id)
+
+abbrev pub if_may_go : Option ℤ → List Record → Option ℕ → Option ℕ
+if_may_go best records None = None
+if_may_go best records (Some q) = if may_go_at best records q then Some q else None
+
+abbrev pub parent_if : Option Record → Option ℕ
+parent_if None = None
+parent_if (Some r) = r.parent
+
+-- the node's parent, if it may be freed
+abbrev pub next_up : Option ℤ → List Record → ℕ → Option ℕ
+next_up best records id = if_may_go best records (parent_if (slice_get records id))
+
+-- the records after a node is freed and then those of the list, each the parent of the one before and free to go; the last one is known
+abbrev pub IsFreedTo : Option ℤ → List Record → ℕ → List ℕ → ℕ → List Record → Type 0
+IsFreedTo best records id [] last after = (id ≡ last) × (after ≡ gone_at records id)
+IsFreedTo best records id (q ∷ ids) last after = (next_up best (gone_at records id) id ≡ Some q) × IsFreedTo best (gone_at records id) q ids last after
+
+-- the nodes of the list are freed so far: the first one, and then parents in turn up to the last one
+pub record IsFreeingUp (best : Option ℤ) (records : List Record) (id : ℕ) (ids : List ℕ) (last : ℕ) (after : List Record) : Type 0 where
+  pub others : List ℕ
+  pub chain : ids ≡ id ∷ others
+  pub freed : IsFreedTo best records id others last after
+
+-- a node is freed, and then each parent in turn as long as it may be
+pub record IsFreedUp (best : Option ℤ) (records : List Record) (id : ℕ) (ids : List ℕ) (after : List Record) : Type 0 where
+  pub last : ℕ
+  pub freeing : IsFreeingUp best records id ids last after
+  pub top : next_up best after last ≡ None
+
+abbrev pub depth_if : Option Record → ℕ
+depth_if None = 0
+depth_if (Some r) = r.depth
+
+-- a parent has a lower number, and is one less deep
+abbrev pub IsLinked : List Record → ℕ → Option ℕ → ℕ → Type 0
+IsLinked records id None depth = Unit {0}
+IsLinked records id (Some q) depth = (q < id) × (depth_if (slice_get records q) + 1 ≡ depth)
+
+abbrev pub AreLinked : List Record → Type 0
+AreLinked records = (id : ℕ) → id < length records → IsLinked records id (parent_if (slice_get records id)) (depth_if (slice_get records id))
+
+-- a node that may be freed is among the candidates; or it waits, and the best value fell since nothing could be freed
+abbrev pub IsCandidate : List ℕ → Bool → List Entry → ℕ → Type 0
+IsCandidate candidates fell past id = (is_among id candidates || (fell && is_waiting (state_of past id))) ≡ true
 
 -- the numbers of the waiting nodes in rising order, where the first record is that of the node n
 abbrev pub waiting_from : ℕ → List Record → List ℕ
@@ -176,10 +320,12 @@ waiting_from n (r ∷ rs) = if is_waiting_stage r.stage then n ∷ waiting_from 
 abbrev pub first_among : (ℕ → ℕ → Bool) → (ℕ → Bool) → List ℕ → Option ℕ
 first_among before fit ids = fold (λ first id. if fit id then preferred before first id else first) None ids
 
--- what the tree keeps follows its history; the list of the waiting nodes has room for a put or a back of each node that is out
-pub record IsTree (p : Program) (s : Settings) (entries : List Entry) (room capacity : ℕ) (kept : List Record) (waiting : List ℕ) (waiting_capacity outs taken : ℕ) (best : Option ℤ) (place : ℕ) : Type 0 where
+-- what the tree keeps follows its history; the lists of the waiting nodes and of the candidates have room for a put or a back of each node that is out
+pub record IsTree (p : Program) (s : Settings) (entries : List Entry) (room capacity : ℕ) (kept : List Record) (waiting : List ℕ) (waiting_capacity : ℕ) (candidates : List ℕ) (candidate_capacity : ℕ) (fell : Bool) (outs taken : ℕ) (best : Option ℤ) (place : ℕ) : Type 0 where
   pub follows : IsKept p s (reverse entries) room capacity kept taken best
   pub stands : StandsAt (best_of p (reverse entries)) entries place
   pub waiting_is : waiting ≡ waiting_from 0 kept
   pub waiting_room : length waiting + 2 * outs ≤ waiting_capacity
   pub outs_is : outs ≡ count_by (λ r. is_out_stage r.stage) kept
+  pub covered : (id : ℕ) → id < length (nodes_of p (reverse entries)) → is_freeable p s (reverse entries) id ≡ true → IsCandidate candidates fell (reverse entries) id
+  pub candidate_room : length candidates + 3 * outs ≤ candidate_capacity

@@ -1,8 +1,10 @@
 -- What contracts see of a tree and of a lease, and what its calls do.
-use Rattle.std.specs.Prelude.{◌≡◌, ℕ, ◌-◌, ℤ, List, [], ◌∷◌, ◌++◌, length, reverse, Option, Some}
+use Rattle.std.specs.Prelude.{◌≡◌, ℕ, ◌-◌, ℤ, List, [], ◌∷◌, ◌++◌, length, map, reverse, Option, Some}
 use Rattle.bl_problem.specs.Program.{Program}
 use Rattle.bl_problem.specs.declared.cut.Cut.{Cut}
 use Rattle.bl_desc.specs.declared.desc.Piece.{Piece}
+use Rattle.bl_desc.specs.declared.desc.Piece.TheVariants.{Explicit, Relative}
+use Rattle.bl_rebuild.specs.declared.chain.Chain.{Chain}
 use Rattle.bl_journal.specs.declared.entry.Entry.{Entry}
 use Rattle.bl_journal.specs.declared.entry.Entry.TheVariants.{Put}
 use Rattle.bl_journal.specs.declared.entry.Step.{Step}
@@ -32,6 +34,10 @@ IsLegalTree t = IsLegal t.problem t.settings t.history
 -- the tree after one more entry
 abbrev pub extended : TreeView → Entry → TreeView
 extended t e = record { problem = t.problem; settings = t.settings; history = t.history ++ e ∷ [] }
+
+-- the pieces of a chain: the explicit one, and then the changes
+abbrev pub pieces_of : Chain Cut → List (Piece Cut)
+pieces_of chain = Explicit chain.top ∷ map Relative chain.changes
 
 pub record LeaseView : Type 0 where
   pub id : ℕ

@@ -1,4 +1,5 @@
 //! What a tree answers.
+use bl_mods::Items;
 
 /// The two nodes that a put made by splitting.
 #[derive(Clone, Copy, Debug, PartialEq, Eq)]
@@ -32,4 +33,26 @@ pub struct Glance {
     pub used: u32,
     pub out: u32,
     pub best: Option<i128>,
+}
+
+/// What a free answers.
+#[derive(Drop)]
+pub enum Freed {
+    /// These nodes were freed, each the parent of the one before.
+    Chain(Items<u32>),
+    /// No node may be freed.
+    Nothing,
+}
+
+/// What became of the wish to store a node in another form. The cases are looked at in the order Gone, Same, Fixed, Gone, Made.
+#[derive(Clone, Copy, Debug, PartialEq, Eq)]
+pub enum Recoded {
+    /// The node is stored in the form now.
+    Made,
+    /// It has the form.
+    Same,
+    /// A relative form was asked, and the span divides the node's depth.
+    Fixed,
+    /// The node is freed; or a relative form was asked, and its parent is.
+    Gone,
 }

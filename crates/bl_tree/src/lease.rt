@@ -3,8 +3,8 @@ ghost use Rattle.std.specs.Prelude.{◌≡◌, Some};
 ghost use Rattle.bl_journal.specs.Pieces.{rebuilt};
 
 use bl_desc::Desc;
-use bl_mods::Shared;
 use bl_problem::Cut;
+use bl_rebuild::Chain;
 use std::marker::Model;
 
 /// The right and the duty to work on a node: it must be spent, by a put or a back. Contracts see the node's number, depth and low number, the best value when it was taken, and the chain of pieces that stands for its description.
@@ -13,17 +13,21 @@ pub struct Lease {
     pub depth: u32,
     pub low: i128,
     pub cutoff: Option<i128>,
-    pub desc: Shared<Desc<Cut>>,
+    pub chain: Chain<Cut>,
+    // What the chain stands for.
+    pub desc: Desc<Cut>,
 }
 
 impl Model for Lease {
-    ghost use Rattle.std.specs.Prelude.{[], ◌∷◌};
-    ghost use Rattle.bl_desc.specs.declared.desc.Piece.TheVariants.{Explicit};
-    ghost use Rattle.bl_tree.specs.Views.{LeaseView};
+    ghost use Rattle.std.specs.Prelude.{◌≡◌, Some};
+    ghost use Rattle.bl_journal.specs.Pieces.{rebuilt};
+    ghost use Rattle.bl_tree.specs.Views.{LeaseView, pieces_of};
 
     ghost Value = { LeaseView };
 
-    ghost view = { λ l. record { id = l.id; depth = l.depth; low = l.low; cutoff = l.cutoff; chain = Explicit l.desc ∷ [] } };
+    ghost view = { λ l. record { id = l.id; depth = l.depth; low = l.low; cutoff = l.cutoff; chain = pieces_of l.chain } };
+
+    ghost invariant = { λ l. rebuilt (pieces_of l.chain) ≡ Some l.desc };
 }
 
 impl Lease {
@@ -59,7 +63,7 @@ impl Lease {
     pub fn desc(&self) -> &Desc<Cut>
         ensures { rebuilt self.now.chain ≡ Some result.now }
     {
-        self.desc.get()
+        &self.desc
     }
 }
 
@@ -73,4 +77,28 @@ pub enum Taken {
     Done,
     /// A live node waits, and as many nodes are used as may be.
     Spent,
+}
+
+/// Ends a lease. What is left of it is its node's number and description.
+pub fn parts_of(lease: Lease) -> (u32, Desc<Cut>)
+    ensures id { result.0 ≡ lease.id }
+    ensures desc { rebuilt lease.chain ≡ Some result.1 }
+{
+    let Lease {
+        id,
+        depth: _,
+        low: _,
+        cutoff: _,
+        chain: _,
+        desc,
+    } = lease;
+    (id, desc)
+}
+
+/// Ends a lease. What is left of it is its node's number.
+pub fn number_of(lease: Lease) -> u32
+    ensures { result ≡ lease.id }
+{
+    let (id, _) = parts_of(lease);
+    id
 }

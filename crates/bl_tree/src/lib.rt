@@ -2,13 +2,19 @@
 #![tactic(auto)]
 
 mod answer;
+mod children;
+mod freeing;
+mod incumbent;
 mod lease;
+mod numbers;
 mod record;
+mod records;
 mod root;
 mod search;
+#[cfg(test)]
+mod tests;
 mod tree;
-mod waiting;
 
-pub use answer::{Answer, Best, Born, Glance};
+pub use answer::{Answer, Best, Born, Freed, Glance, Recoded};
 pub use lease::{Lease, Taken};
 pub use tree::Tree;

@@ -1,13 +1,10 @@
 //! What the tree keeps of a node.
-ghost use Rattle.std.specs.Prelude.{◌≡◌, ◌≤◌, ◌^◌, true};
+ghost use Rattle.std.specs.Prelude.{◌≡◌, ◌≤◌, ◌^◌, IfSome};
 ghost use Rattle.bl_desc.specs.Weights.{HasShortLists};
-ghost use Rattle.bl_desc.specs.declared.desc.Piece.TheVariants.{Explicit};
-ghost use Rattle.bl_tree.specs.Records.{precedes, is_explicit_piece, fresh_record};
+ghost use Rattle.bl_tree.specs.Records.{precedes, is_relative, weight_if, fresh_record};
 
-use crate::search::has_point;
-use bl_desc::{Desc, Piece, weight};
+use bl_desc::{Piece, weight};
 use bl_journal::Order;
-use bl_mods::Shared;
 use bl_problem::Cut;
 
 /// Where a node stands.
@@ -21,14 +18,16 @@ pub enum Stage {
     Gone,
 }
 
-/// A node: its depth and low number, where it stands, whether its box has a point, and how it is stored.
+/// A node: its parent and the first of its children, its depth and low number, where it stands, whether its box has a point, and how it is stored, unless it is freed.
 #[derive(Drop)]
 pub struct Record {
+    pub parent: Option<u32>,
+    pub children: Option<u32>,
     pub depth: u32,
     pub low: i128,
     pub stage: Stage,
     pub has_point: bool,
-    pub piece: Piece<Cut>,
+    pub piece: Option<Piece<Cut>>,
 }
 
 impl Record {
@@ -56,17 +55,14 @@ impl Record {
     pub fn waits(&self, best: Option<i128>) -> bool
         ensures { result ≡ waits best self.now }
     {
-        self.is_waiting()
-            && self.has_point
-            && match best {
-                None => true,
-                Some(value) => self.low < value,
-            }
+        self.is_waiting() && self.is_open(best)
     }
 }
 
 impl Record {
-    ghost use Rattle.bl_tree.specs.Records.{lives, is_kept_stage, record_weight};
+    ghost use Rattle.bl_tree.specs.Records.{lives, is_over_stage, is_below_value, stage_state};
+    ghost use Rattle.bl_journal.specs.Pieces.{is_freed};
+    ghost use Rattle.std.specs.Prelude.{◌&&◌};
 
     /// Whether the node is live.
     pub fn lives(&self, best: Option<i128>) -> bool
@@ -75,26 +71,59 @@ impl Record {
         self.is_out() || self.waits(best)
     }
 
-    /// Whether the node is not freed.
-    pub fn is_kept(&self) -> bool
-        ensures { result ≡ is_kept_stage self.now.stage }
+    // Whether the node may have a better point.
+    fn is_open(&self, best: Option<i128>) -> bool
+        ensures { result ≡ (self.now.has_point && is_below_value self.now.low best) }
+    {
+        self.has_point
+            && match best {
+                None => true,
+                Some(value) => self.low < value,
+            }
+    }
+
+    /// Whether the node is split, shut, or waiting and not live.
+    pub fn is_over(&self, best: Option<i128>) -> bool
+        ensures { result ≡ is_over_stage self.now.stage (self.now.has_point && is_below_value self.now.low best) }
     {
         match self.stage {
+            Stage::Parted => true,
+            Stage::Closed => true,
+            Stage::Waiting => !self.is_open(best),
+            Stage::Out(_) => false,
             Stage::Gone => false,
-            _ => true,
+        }
+    }
+
+    /// Whether the node is stored relative to its parent.
+    pub fn is_relative(&self) -> bool
+        ensures { result ≡ is_relative self.now.piece }
+    {
+        match &self.piece {
+            Some(Piece::Relative(_)) => true,
+            _ => false,
+        }
+    }
+
+    /// Whether the node is freed.
+    pub fn is_gone(&self) -> bool
+        ensures { result ≡ is_freed (stage_state self.now.stage) }
+    {
+        match self.stage {
+            Stage::Gone => true,
+            _ => false,
         }
     }
 
     /// The weight of the node's piece, 0 where it is freed.
     pub fn weight(&self) -> u64
-        requires { HasShortLists self.now.piece }
-        ensures exact { result ≡ record_weight self.now }
+        requires { IfSome self.now.piece HasShortLists }
+        ensures exact { result ≡ weight_if self.now.piece }
         ensures small { result ≤ 2 ^ 36 }
     {
-        if self.is_kept() {
-            weight(&self.piece)
-        } else {
-            0
+        match &self.piece {
+            Some(piece) => weight(piece),
+            None => 0,
         }
     }
 }
@@ -109,38 +138,17 @@ pub fn is_before(order: Order, a: &Record, b: &Record) -> bool
     }
 }
 
-/// The record of a new node.
-pub fn new_record(depth: u32, low: i128, desc: Shared<Desc<Cut>>) -> Record
-    ensures { result ≡ fresh_record depth low desc }
+/// The record of a new child.
+pub fn new_record(parent: u32, depth: u32, low: i128, has_point: bool, piece: Piece<Cut>) -> Record
+    ensures { result ≡ fresh_record parent depth low has_point piece }
 {
-    let has_point = has_point(desc.get().lows.as_slice(), desc.get().highs.as_slice());
     Record {
+        parent: Some(parent),
+        children: None,
         depth,
         low,
         stage: Stage::Waiting,
         has_point,
-        piece: Piece::Explicit(desc),
-    }
-}
-
-/// The description of an explicit piece.
-pub fn explicit_of(piece: Piece<Cut>) -> Shared<Desc<Cut>>
-    requires { is_explicit_piece piece ≡ true }
-    ensures { piece ≡ Explicit result }
-{
-    match piece {
-        Piece::Explicit(desc) => desc,
-        Piece::Relative(_) => unreachable!(),
-    }
-}
-
-/// The description of an explicit piece, by reference.
-pub fn explicit_in(piece: &Piece<Cut>) -> &Shared<Desc<Cut>>
-    requires { is_explicit_piece piece.now ≡ true }
-    ensures { piece.now ≡ Explicit result.now }
-{
-    match piece {
-        Piece::Explicit(desc) => desc,
-        Piece::Relative(_) => unreachable!(),
+        piece: Some(piece),
     }
 }

@@ -1,11 +1,14 @@
 //! The root of a tree.
 ghost use Rattle.std.specs.Prelude.{◌≡◌, ◌≤◌, ◌++◌, replicate, take, length, IfOk};
-ghost use Rattle.bl_problem.specs.Points.{lows_of, highs_of};
+ghost use Rattle.bl_problem.specs.Points.{lows_of, highs_of, own_lows, own_highs, trivial_bound_of};
 ghost use Rattle.bl_journal.specs.Descriptions.{root_desc};
+ghost use Rattle.bl_tree.specs.Records.{root_record};
 ghost use Rattle.bl_desc.specs.declared.desc.Status.TheVariants.{AtLow};
 
-use bl_desc::{Desc, Status};
-use bl_mods::Items;
+use crate::record::{Record, Stage};
+use crate::search::has_point;
+use bl_desc::{Desc, Piece, Status};
+use bl_mods::{Items, Shared};
 use bl_problem::{Column, Cut, Problem};
 use std::alloc::{AllocError, Global};
 
@@ -56,4 +59,29 @@ pub fn describe_root(alloc: Global, problem: &Problem) -> Result<Desc<Cut>, Allo
         row_status: all_at_low(alloc, rows.len())?,
         cut_status: Items::new(alloc),
     })
+}
+
+/// The record of the root: it waits, and is stored whole.
+pub fn root_record(low: i128, desc: Shared<Desc<Cut>>) -> Record
+    ensures { result ≡ root_record low desc }
+{
+    let has_point = has_point(desc.get().lows.as_slice(), desc.get().highs.as_slice());
+    Record {
+        parent: None,
+        children: None,
+        depth: 0,
+        low,
+        stage: Stage::Waiting,
+        has_point,
+        piece: Some(Piece::Explicit(desc)),
+    }
+}
+
+/// The root's low number: what its box alone gives.
+pub fn root_low(problem: &Problem, desc: &Desc<Cut>) -> i128
+    requires { desc.now ≡ root_desc problem.now }
+    ensures { result ≡ trivial_bound_of problem.now (own_lows problem.now) (own_highs problem.now) }
+{
+    let _columns = problem.columns();
+    problem.trivial_bound(desc.lows.as_slice(), desc.highs.as_slice())
 }

@@ -1,7 +1,7 @@
 //! Searches over plain lists of records.
 ghost use Rattle.std.specs.Prelude.{◌≡◌, ◌<◌, ◌≤◌, length, ◌^◌, slice_get, sum_by, option_copied, All, IfSome, if◌then◌else◌};
 ghost use Rattle.bl_journal.specs.Replies.{preferred};
-ghost use Rattle.bl_tree.specs.Records.{waits_if, precedes_if, first_among, least_with, least_if, live_lows, piece_if, record_weight};
+ghost use Rattle.bl_tree.specs.Records.{waits_if, precedes_if, first_among, least_with, least_if, live_lows, piece_if, weight_if};
 ghost use Rattle.bl_desc.specs.Weights.{HasShortLists};
 ghost use Rattle.bl_journal.specs.States.{has_point as box_has_point};
 
@@ -110,25 +110,20 @@ pub fn least_live(records: &[Record], best: Option<i128>) -> Option<i128>
 }
 
 /// The piece of a node that is born and not freed.
-pub fn piece_at(records: &[Record], id: usize) -> Option<&Piece<Cut>>
+pub fn piece_of(records: &[Record], id: usize) -> Option<&Piece<Cut>>
     ensures { option_copied result ≡ piece_if (slice_get records.now id) }
 {
     if id >= records.len() {
         return None;
     }
-    let record = &records[id];
-    if record.is_kept() {
-        Some(&record.piece)
-    } else {
-        None
-    }
+    records[id].piece.as_ref()
 }
 
 /// The weight of the pieces of all nodes that are not freed.
 pub fn weight_of_all(records: &[Record]) -> u64
     requires few { length records.now ≤ 2 ^ 20 }
-    requires short { All (λ r. HasShortLists r.piece) records.now }
-    ensures { result ≡ sum_by record_weight records.now }
+    requires short { All (λ r. IfSome r.piece HasShortLists) records.now }
+    ensures { result ≡ sum_by (λ r. weight_if r.piece) records.now }
 {
     let mut sum = 0;
     for record in records {

@@ -1,154 +1,26 @@
 //! The tree over a plain list of records.
-ghost use Rattle.std.specs.Prelude.{◌≡◌, ◌<◌, ◌≤◌, ◌+◌, ◌^◌, [], ◌∷◌, ◌++◌, length, OnErr, OnOk, IfOk, IfErr, IfSome, IsTrue, ◌↔◌, slice_get, count_by, option_copied, Some};
-ghost use Rattle.std.specs.Prelude.{true};
-ghost use Rattle.bl_journal.specs.Replies.{first_below};
-ghost use Rattle.bl_problem.specs.Points.{InBox, own_lows, own_highs, value_of, trivial_bound_of};
-ghost use Rattle.bl_desc.specs.declared.desc.Piece.TheVariants.{Explicit};
-ghost use Rattle.bl_tree.specs.Records.{best_value_with, improves, place_with, found_in, found_with};
-ghost use Rattle.bl_journal.specs.Results.{lesser_of};
+ghost use Rattle.std.specs.Prelude.{◌≡◌, ◌<◌, ◌≤◌, ◌+◌, [], OnErr, IfOk, IfSome, option_copied};
 ghost use Rattle.bl_journal.specs.declared.entry.Entry.TheVariants.{Put};
-ghost use Rattle.bl_tree.specs.Answers.{found_if, verdict_of, verdict_from};
-ghost use Rattle.bl_journal.specs.Descriptions.{root_desc};
 
-use crate::answer::{Answer, Best, Born, Glance};
-use crate::lease::{Lease, Taken};
-use crate::record::{Record, Stage, explicit_in, explicit_of, new_record};
-use crate::root::describe_root;
-use crate::search::{first_waiting, least_live, piece_at, weight_of_all};
-use crate::waiting::{append_two, join, leave};
-use bl_desc::{Desc, Piece};
+use crate::answer::{Answer, Best, Born, Freed, Glance, Recoded};
+use crate::children::have_points;
+use crate::freeing::{free_up, least_to_go};
+use crate::incumbent::{answer_from, best_after, found_at, is_better, place_after};
+use crate::lease::{Lease, Taken, number_of, parts_of};
+use crate::numbers::{append_if, append_two, copy_into, join, leave};
+use crate::record::{Record, Stage, new_record};
+use crate::records::{make_room, store};
+use crate::root::{describe_root, root_low, root_record};
+use crate::search::{first_waiting, least_live, piece_of, weight_of_all};
+use bl_desc::{Desc, Form, Piece, between};
+use bl_journal::laws::descriptions_are_whole;
 use bl_journal::{Entry, Journal, Next, Outcome, Settings, Step};
 use bl_mods::{Items, Shared};
 use bl_problem::{Cut, Problem};
+use bl_rebuild::{Chain, rebuild};
 use std::alloc::{AllocError, Global};
 use std::marker::Model;
 use std::sync::Arc;
-
-/// Whether a found point is better than the best one.
-fn is_better(problem: &Problem, best: Option<i128>, found: &Option<Items<i64>>) -> bool
-    requires { IfSome found.now (λ x. InBox (own_lows problem.now) (own_highs problem.now) x) }
-    ensures { result ≡ improves problem.now best found.now }
-{
-    match found {
-        None => false,
-        Some(point) => match best {
-            None => true,
-            Some(value) => value_within(problem, point.as_slice()) < value,
-        },
-    }
-}
-
-/// Where the entry stands that found the best point, after a put at the place `now`.
-fn place_after(
-    problem: &Problem,
-    best: Option<i128>,
-    found: &Option<Items<i64>>,
-    before: usize,
-    now: usize,
-) -> usize
-    requires { IfSome found.now (λ x. InBox (own_lows problem.now) (own_highs problem.now) x) }
-    ensures { result ≡ place_with problem.now best found.now before now }
-{
-    if is_better(problem, best, found) {
-        now
-    } else {
-        before
-    }
-}
-
-/// The value of a point within the problem's bounds.
-fn value_within(problem: &Problem, point: &[i64]) -> i128
-    requires { InBox (own_lows problem.now) (own_highs problem.now) point.now }
-    ensures { result ≡ value_of problem.now point.now }
-{
-    let _columns = problem.columns();
-    problem.value(point)
-}
-
-/// The best value after a point was found, or none was.
-fn best_after(problem: &Problem, best: Option<i128>, found: &Option<Items<i64>>) -> Option<i128>
-    requires { IfSome found.now (λ x. InBox (own_lows problem.now) (own_highs problem.now) x) }
-    ensures { result ≡ best_value_with problem.now best found.now }
-{
-    match found {
-        None => best,
-        Some(point) => {
-            let value = value_within(problem, point.as_slice());
-            match best {
-                None => Some(value),
-                Some(old) => { if value < old { Some(value) } else { Some(old) } }
-            }
-        }
-    }
-}
-
-// The point that the entry at a place found, with its value.
-fn found_at(entries: &[Entry], place: usize, value: i128) -> Option<Best<'_>>
-    ensures { found_if result ≡ found_with value (found_in (slice_get entries.now place)) }
-{
-    if place >= entries.len() {
-        return None;
-    }
-    match &entries[place] {
-        Entry::Put {
-            found: Some(point),
-            ..
-        } => Some(Best {
-            value,
-            point: point.as_slice(),
-        }),
-        _ => None,
-    }
-}
-
-// The lesser of a number and the best value.
-fn lesser_value(low: i128, best: &Option<Best<'_>>) -> i128
-    ensures { result ≡ lesser_of low (found_if best.now) }
-{
-    match best {
-        None => low,
-        Some(best) => best.value.min(low),
-    }
-}
-
-// The answer, from the best point and the least low number of the live nodes.
-fn answer_from(best: Option<Best<'_>>, least: Option<i128>) -> Answer<'_>
-    ensures { verdict_of result ≡ verdict_from (found_if best.entry) least }
-{
-    match least {
-        None => match best {
-            Some(Best { value, point }) => Answer::Optimal { value, point },
-            None => Answer::Infeasible,
-        },
-        Some(low) => Answer::Bounded {
-            bound: lesser_value(low, &best),
-            best,
-        },
-    }
-}
-
-// The root's low number: what its box alone gives.
-fn root_low(problem: &Problem, desc: &Desc<Cut>) -> i128
-    requires { desc.now ≡ root_desc problem.now }
-    ensures { result ≡ trivial_bound_of problem.now (own_lows problem.now) (own_highs problem.now) }
-{
-    let _columns = problem.columns();
-    problem.trivial_bound(desc.lows.as_slice(), desc.highs.as_slice())
-}
-
-// Ends a lease. What is left of it is its node's number.
-fn number_of(lease: Lease) -> u32
-    ensures { result ≡ lease.id }
-{
-    let Lease {
-        id,
-        depth: _,
-        low: _,
-        cutoff: _,
-        desc: _,
-    } = lease;
-    id
-}
 
 // The entry of a put.
 fn put_of(seat: u32, id: u32, found: Option<Items<i64>>, low: i128, next: Step) -> Entry
@@ -172,6 +44,10 @@ pub struct Tree {
     records: Vec<Record>,
     // The numbers of the waiting nodes, in rising order.
     waiting: Vec<u32>,
+    // Each node that may be freed is one of these; or it waits, and `fell` is set.
+    candidates: Vec<u32>,
+    // The best value fell since nothing could be freed.
+    fell: bool,
     // How many nodes are out.
     outs: u32,
     used: u32,
@@ -189,15 +65,23 @@ impl Model for Tree {
 
     ghost view = { λ t. record { problem = t.problem; settings = t.settings; history = t.journal.entries } };
 
-    ghost invariant = { λ t. IsTree t.problem t.settings t.journal.entries t.journal.room (vec_capacity t.records) t.records.items t.waiting.items (vec_capacity t.waiting) t.outs t.used t.best t.best_place };
+    ghost invariant = { λ t. IsTree t.problem t.settings t.journal.entries t.journal.room (vec_capacity t.records) t.records.items t.waiting.items (vec_capacity t.waiting) t.candidates.items (vec_capacity t.candidates) t.fell t.outs t.used t.best t.best_place };
 }
 
 impl Tree {
     ghost use Rattle.bl_tree.specs.Views.{IsLegalTree, IsLeaseOf, IsPutFor, extended, put_entry};
-    ghost use Rattle.bl_tree.specs.Answers.{born_for, glance_for, stored_for, held_for, found_if, verdict_of, verdict_for};
+    ghost use Rattle.bl_tree.specs.Answers.{IsBorn, born_for, glance_for, stored_for, held_for, found_if, verdict_of, verdict_for, recoded_for, related_for, is_freed_if};
     ghost use Rattle.bl_tree.specs.Views.{past_of};
     ghost use Rattle.bl_journal.specs.States.{best_of};
-    ghost use Rattle.bl_tree.specs.Calls.{Takes};
+    ghost use Rattle.bl_tree.specs.Calls.{Takes, Frees, Recodes};
+    ghost use Rattle.bl_tree.specs.declared.answer.Recoded.TheVariants.{Made};
+    ghost use Rattle.bl_tree.specs.Chains.{StandsFor};
+    ghost use Rattle.bl_tree.specs.Views.{pieces_of};
+    ghost use Rattle.bl_journal.specs.Pieces.{chain_of, piece_in};
+    ghost use Rattle.bl_journal.specs.Freeing.{first_freeable};
+    ghost use Rattle.bl_journal.specs.Descriptions.{full_of};
+    ghost use Rattle.bl_journal.specs.States.{state_of, freed};
+    ghost use Rattle.std.specs.Prelude.{◌≢◌};
     ghost use Rattle.bl_journal.specs.declared.entry.Entry.TheVariants.{Back};
 
     /// The history, which is legal.
@@ -210,7 +94,8 @@ impl Tree {
 
     /// The tree of a problem before anything happened: its root waits.
     pub fn new(alloc: Global, problem: Arc<Problem>, settings: Settings) -> Result<Tree, AllocError>
-        requires span { settings.span ≡ 1 }
+        requires span { 0 < settings.span }
+        requires short { settings.span ≤ 64 }
         requires few { settings.nodes ≤ 100000 }
         ensures { IfOk result (λ tree. tree ≡ record { problem = problem.value; settings = settings; history = [] }) }
     {
@@ -218,16 +103,20 @@ impl Tree {
         let desc = describe_root(alloc, problem.get())?;
         let low = root_low(problem.get(), &desc);
         let mut records = Vec::new(alloc);
-        let record = new_record(0, low, Shared::new(alloc, desc)?);
+        let record = root_record(low, Shared::new(alloc, desc)?);
         records.push(record)?;
         let mut waiting = Vec::new(alloc);
         waiting.push(0)?;
+        let mut candidates = Vec::new(alloc);
+        candidates.push(0)?;
         Ok(Tree {
             problem,
             settings,
             journal: Journal::new(alloc),
             records,
             waiting,
+            candidates,
+            fell: false,
             outs: 0,
             used: 0,
             best: None,
@@ -247,7 +136,7 @@ impl Tree {
     pub fn stored(&self, id: u32) -> Option<&Piece<Cut>>
         ensures { option_copied result ≡ stored_for self.now id }
     {
-        piece_at(&self.records, id as usize)
+        piece_of(&self.records, id as usize)
     }
 
     /// How many entries the stored pieces have.
@@ -301,17 +190,22 @@ impl Tree {
         if self.used >= self.settings.nodes {
             return Ok(Taken::Spent);
         }
+        let id = place as u32;
+        let chain = self.chain_to(id)?;
+        let desc = rebuild(&chain)?;
         // Room for this take, and for the put or the back of each lease.
         let leases = self.outs as usize + 1;
         self.journal.reserve(leases + 1)?;
-        self.records.reserve(2 * leases)?;
-        self.waiting.reserve(2 * leases)?;
+        make_room(
+            &mut self.records,
+            &mut self.waiting,
+            &mut self.candidates,
+            leases,
+        )?;
         let record = &mut self.records[place];
-        let desc = explicit_in(&record.piece).share()?;
         let depth = record.depth;
         let low = record.low;
         record.stage = Stage::Out(seat);
-        let id = place as u32;
         leave(&mut self.waiting, id);
         self.outs += 1;
         self.used += 1;
@@ -321,8 +215,33 @@ impl Tree {
             depth,
             low,
             cutoff: self.best,
+            chain,
             desc,
         }))
+    }
+
+    // The chain of pieces that stands for the description of a node that is not freed.
+    fn chain_to(&self, id: u32) -> Result<Chain<Cut>, AllocError>
+        requires born { IsBorn self.now id }
+        requires stands { state_of (past_of self.now) id ≢ freed }
+        ensures pieces { IfOk result (λ chain. pieces_of chain ≡ chain_of self.now.problem self.now.settings (past_of self.now) id) }
+        ensures sound { IfOk result (λ chain. StandsFor chain (full_of self.now.problem (past_of self.now) id)) }
+    {
+        let record = &self.records[id as usize];
+        let Some(piece) = &record.piece else {
+            unreachable!()
+        };
+        match piece {
+            Piece::Explicit(desc) => Ok(Chain::begin(*self.waiting.allocator(), desc.share()?)),
+            Piece::Relative(change) => {
+                let Some(parent) = record.parent else {
+                    unreachable!()
+                };
+                let mut chain = self.chain_to(parent)?;
+                chain.push(change.share()?);
+                Ok(chain)
+            }
+        }
     }
 
     /// Hands in the outcome of the work on a node.
@@ -331,13 +250,15 @@ impl Tree {
         ensures entry { self.new ≡ extended self.old (put_entry seat lease.id outcome) }
         ensures born { result ≡ born_for self.old outcome.next }
     {
-        let id = number_of(lease);
+        let (id, desc) = parts_of(lease);
         let Outcome { found, low, next } = outcome;
         let problem = self.problem.get();
         let now = self.journal.len();
         self.best_place = place_after(problem, self.best, &found, self.best_place, now);
+        self.fell |= is_better(problem, self.best, &found);
         self.best = best_after(problem, self.best, &found);
         self.outs -= 1;
+        self.candidates.push_reserved(id);
         match next {
             Next::Shut => {
                 self.records[id as usize].stage = Stage::Closed;
@@ -352,16 +273,19 @@ impl Tree {
                 left,
                 right,
             } => {
+                let (left_open, right_open) = have_points(desc, common.get(), column as usize, at);
                 let count = self.records.len() as u32;
                 let parent = &mut self.records[id as usize];
                 parent.stage = Stage::Parted;
+                parent.children = Some(count);
                 let depth = parent.depth + 1;
                 let child_low = parent.low.max(low);
                 self.records
-                    .push_reserved(new_record(depth, child_low, explicit_of(left)));
+                    .push_reserved(new_record(id, depth, child_low, left_open, left));
                 self.records
-                    .push_reserved(new_record(depth, child_low, explicit_of(right)));
+                    .push_reserved(new_record(id, depth, child_low, right_open, right));
                 append_two(&mut self.waiting, count);
+                append_two(&mut self.candidates, count);
                 let step = Step::Split { common, column, at };
                 self.journal
                     .push_reserved(put_of(seat, id, found, low, step));
@@ -381,8 +305,144 @@ impl Tree {
         let id = number_of(lease);
         self.records[id as usize].stage = Stage::Waiting;
         join(&mut self.waiting, id);
+        self.candidates.push_reserved(id);
         self.outs -= 1;
         self.used -= 1;
         self.journal.push_reserved(Entry::Back { seat, id });
+    }
+
+    // Whether the node is freed; not where there is none.
+    fn is_gone(&self, id: Option<u32>) -> bool
+        requires { IfSome id (IsBorn self.now) }
+        ensures { result ≡ is_freed_if self.now id }
+    {
+        match id {
+            Some(id) => self.records[id as usize].is_gone(),
+            None => false,
+        }
+    }
+
+    // What an encoding would answer.
+    fn recoding(&self, id: u32, form: Form) -> Recoded
+        requires { IsBorn self.now id }
+        ensures { result ≡ recoded_for self.now id form }
+    {
+        let record = &self.records[id as usize];
+        let Some(piece) = &record.piece else {
+            return Recoded::Gone;
+        };
+        match piece {
+            Piece::Explicit(_) => match form {
+                Form::Explicit => Recoded::Same,
+                Form::Relative => self.relating(id),
+            },
+            Piece::Relative(_) => match form {
+                Form::Explicit => Recoded::Made,
+                Form::Relative => Recoded::Same,
+            },
+        }
+    }
+
+    // What an encoding of an explicit node as a relative one would answer.
+    fn relating(&self, id: u32) -> Recoded
+        requires { IsBorn self.now id }
+        ensures { result ≡ related_for self.now id }
+    {
+        let record = &self.records[id as usize];
+        if record.depth % self.settings.span == 0 {
+            Recoded::Fixed
+        } else if self.is_gone(record.parent) {
+            Recoded::Gone
+        } else {
+            Recoded::Made
+        }
+    }
+
+    // The description of a node that is not freed.
+    fn description_of(&self, id: u32) -> Result<Desc<Cut>, AllocError>
+        requires born { IsBorn self.now id }
+        requires stands { state_of (past_of self.now) id ≢ freed }
+        ensures { IfOk result (λ desc. desc ≡ full_of self.now.problem (past_of self.now) id) }
+    {
+        rebuild(&self.chain_to(id)?)
+    }
+
+    // The node in the form.
+    fn encoded(&self, id: u32, form: Form) -> Result<Piece<Cut>, AllocError>
+        requires born { IsBorn self.now id }
+        requires made { recoded_for self.now id form ≡ Made }
+        ensures { IfOk result (λ piece. piece ≡ piece_in self.now.problem (past_of self.now) id form) }
+    {
+        descriptions_are_whole();
+        let _columns = self.problem.get().columns();
+        let alloc = *self.waiting.allocator();
+        let desc = self.description_of(id)?;
+        match form {
+            Form::Explicit => Ok(Piece::Explicit(Shared::new(alloc, desc)?)),
+            Form::Relative => {
+                let Some(parent) = self.records[id as usize].parent else {
+                    unreachable!()
+                };
+                let above = self.description_of(parent)?;
+                let change = between(alloc, &above, &desc)?;
+                Ok(Piece::Relative(Shared::new(alloc, change)?))
+            }
+        }
+    }
+
+    /// Stores a node that is born in another form. `AllocError` where there is no memory; the tree is then as it was.
+    pub fn recode(&mut self, seat: u32, id: u32, form: Form) -> Result<Recoded, AllocError>
+        requires { IsBorn self.old id }
+        ensures recoded { IfOk result (λ answer. Recodes self.old seat id form answer self.new) }
+        ensures err { OnErr result (self.new ≡ self.old) }
+    {
+        let answer = self.recoding(id, form);
+        if answer != Recoded::Made {
+            return Ok(answer);
+        }
+        let piece = self.encoded(id, form)?;
+        let outs = self.outs as usize;
+        self.journal.reserve(outs + 1)?;
+        self.candidates.reserve(3 * outs + 1)?;
+        let parent = store(&mut self.records, id as usize, piece);
+        append_if(&mut self.candidates, parent);
+        self.journal.push_reserved(Entry::Encode { seat, id, form });
+        Ok(answer)
+    }
+
+    // The least node that may be freed.
+    fn first_to_go(&self) -> Option<u32>
+        ensures { result ≡ first_freeable self.now.problem self.now.settings (past_of self.now) }
+    {
+        let first = least_to_go(&self.records, self.best, None, &self.candidates);
+        if self.fell {
+            least_to_go(&self.records, self.best, first, &self.waiting)
+        } else {
+            first
+        }
+    }
+
+    /// Frees the least node that may be freed, and then each parent in turn as long as it may be. `Nothing` exactly where no node may be freed. `AllocError` where there is no memory; the tree is then as it was.
+    pub fn free(&mut self, seat: u32) -> Result<Freed, AllocError>
+        ensures freed { IfOk result (λ answer. Frees self.old seat answer self.new) }
+        ensures err { OnErr result (self.new ≡ self.old) }
+    {
+        let Some(first) = self.first_to_go() else {
+            self.candidates.clear();
+            self.fell = false;
+            return Ok(Freed::Nothing);
+        };
+        let alloc = *self.waiting.allocator();
+        self.journal.reserve(self.outs as usize + 1)?;
+        let most = self.records[first as usize].depth as usize + 1;
+        let mut ids = Vec::with_capacity(alloc, most)?;
+        let mut chain = Vec::with_capacity(alloc, most)?;
+        free_up(&mut self.records, self.best, first, &mut ids);
+        ids.shrink_to_fit();
+        copy_into(&ids, &mut chain);
+        leave(&mut self.waiting, first);
+        let ids = Items::from_vec(ids);
+        self.journal.push_reserved(Entry::Free { seat, ids });
+        Ok(Freed::Chain(Items::from_vec(chain)))
     }
 }

@@ -1,6 +1,6 @@
 use Rattle.std.proofs.Common.{◌∙◌, sym, ap, ℕ, None, replicate}
 use Rattle.std.specs.declared.option.Option.{Option}
-use Rattle.bl_mps.specs.declared.kind.Ends.{Ends}
+use Rattle.bl_mps.specs.declared.ends.Ends.{Ends}
 use Rattle.bl_mps.proofs.Lists.{same_each}
 use Rattle.bl_mps.proofs.ends.column_ends.Goals as goal
 

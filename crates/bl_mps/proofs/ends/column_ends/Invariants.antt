@@ -1,6 +1,6 @@
 use Rattle.std.proofs.Common.{◌≡◌, map, take}
 use Rattle.bl_mps.specs.Meaning.{ends_set}
-use Rattle.bl_mps.specs.Views.{card_of}
+use Rattle.bl_cards.specs.Views.{card_of}
 use Rattle.bl_mps.proofs.ends.column_ends.Given as goal
 
 abbrev pub invariant-loop-card : goal.invariant-loop-card

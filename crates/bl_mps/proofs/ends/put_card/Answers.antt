@@ -1,5 +1,5 @@
 use Rattle.std.proofs.Common.{◌∙◌, sym}
-use Rattle.bl_mps.specs.Views.{card_of}
+use Rattle.bl_cards.specs.Views.{card_of}
 use Rattle.bl_mps.proofs.Lists.{ends_unknown, ends_put}
 use Rattle.bl_mps.proofs.ends.put_card.Goals as goal
 

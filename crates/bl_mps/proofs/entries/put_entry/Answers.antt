@@ -1,7 +1,7 @@
 use Rattle.std.proofs.Common.{◌∙◌, sym, ap, ◌++◌, ◌∷◌, []}
 use Rattle.bl_mps.specs.declared.entries.Entry.{Entry}
 use Rattle.bl_mps.specs.Meaning.{entry_of, is_zero}
-use Rattle.bl_mps.specs.Views.{cell_of}
+use Rattle.bl_cards.specs.Views.{cell_of}
 use Rattle.bl_mps.proofs.Lists.{entries_zero, entries_unknown, entries_put, no_entry, an_entry}
 use Rattle.bl_mps.proofs.entries.put_entry.Goals as goal
 

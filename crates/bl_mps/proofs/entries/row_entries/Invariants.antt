@@ -1,6 +1,6 @@
 use Rattle.std.proofs.Common.{◌≡◌, map, take}
 use Rattle.bl_mps.specs.Meaning.{entries_of}
-use Rattle.bl_mps.specs.Views.{cell_of}
+use Rattle.bl_cards.specs.Views.{cell_of}
 use Rattle.bl_mps.proofs.entries.row_entries.Given as goal
 
 abbrev pub invariant-loop-cell : goal.invariant-loop-cell

@@ -2,13 +2,13 @@ use Rattle.std.proofs.Common.{Result, Err, ◌≡◌, ◌∙◌, sym, ap, subst,
 use Rattle.std.proofs.lemmas.List.{get_or-map, length-map}
 use Rattle.bl_problem.specs.Program.{Program}
 use Rattle.bl_mps.specs.declared.entries.Entry.{Entry}
-use Rattle.bl_mps.specs.declared.kind.Role.TheVariants.{Extra}
-use Rattle.bl_mps.specs.declared.kind.Ends.{Ends}
-use Rattle.bl_mps.specs.declared.kind.What.{What}
-use Rattle.bl_mps.specs.Said.{RowLine, Grid}
-use Rattle.bl_mps.specs.Lines.{has_objective}
-use Rattle.bl_mps.specs.Meaning.{entries_of, objective_in, all_ends, are_whole, are_bounded, objective_of, objective_within, program_of, keeps_limits}
-use Rattle.bl_mps.specs.Views.{Gives}
+use Rattle.bl_cards.specs.declared.kind.Role.TheVariants.{Extra}
+use Rattle.bl_mps.specs.declared.ends.Ends.{Ends}
+use Rattle.bl_cards.specs.declared.kind.What.{What}
+use Rattle.bl_cards.specs.Said.{RowLine, Grid}
+use Rattle.bl_cards.specs.Lines.{has_objective, objective_in}
+use Rattle.bl_mps.specs.Meaning.{entries_of, all_ends, are_whole, are_bounded, objective_of, objective_within, program_of, keeps_limits}
+use Rattle.bl_cards.specs.Views.{Gives}
 use Rattle.bl_mps.proofs.Made.{objective_wide, wide_in, finished_is, some_true}
 use Rattle.bl_mps.proofs.finish.finish.Goals as goal
 

@@ -2,9 +2,9 @@ use Rattle.std.proofs.Common.{◌<◌, ◌∙◌, sym, ap, map, length, List, []
 use Rattle.std.specs.List.{list_all}
 use Rattle.std.proofs.lemmas.List.{get_or-map, length-map}
 use Rattle.bl_mps.specs.declared.entries.Entry.{Entry}
-use Rattle.bl_mps.specs.Said.{RowLine}
-use Rattle.bl_mps.specs.declared.kind.Role.TheVariants.{Extra}
-use Rattle.bl_mps.specs.Lines.{is_limited}
+use Rattle.bl_cards.specs.Said.{RowLine}
+use Rattle.bl_cards.specs.declared.kind.Role.TheVariants.{Extra}
+use Rattle.bl_cards.specs.Lines.{is_limited}
 use Rattle.bl_mps.specs.Meaning.{entries_of, row_of, rows_of, row_within}
 use Rattle.bl_mps.proofs.Limits.{kept}
 use Rattle.bl_mps.proofs.Made.{row_made, row_passed, row_fails, all_pushed, wide_in}

@@ -1,7 +1,7 @@
 use Rattle.std.proofs.Common.{◌≡◌, take, map, true}
 use Rattle.std.specs.Prelude.{filter}
 use Rattle.std.specs.List.{list_all}
-use Rattle.bl_mps.specs.Lines.{is_limited}
+use Rattle.bl_cards.specs.Lines.{is_limited}
 use Rattle.bl_mps.specs.Meaning.{row_of, row_within}
 use Rattle.bl_mps.proofs.finish.make_rows.Given as goal
 

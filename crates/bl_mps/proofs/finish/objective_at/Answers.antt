@@ -1,10 +1,11 @@
 use Rattle.std.proofs.Common.{◌≡◌, ◌∙◌, sym, ap, subst, List, [], get_or, None, ℕ}
-use Rattle.bl_mps.specs.Said.{RowLine}
+use Rattle.bl_cards.specs.Said.{RowLine}
 use Rattle.bl_mps.specs.declared.finish.ScaledObjective.{ScaledObjective}
-use Rattle.bl_mps.specs.declared.kind.Role.TheVariants.{Extra}
-use Rattle.bl_mps.specs.Meaning.{or_zero, limited, objective_within, objective_in, objective_in_units, objective_of}
-use Rattle.bl_mps.specs.Coherence.{IsRowRead}
-use Rattle.bl_mps.specs.Views.{Gives, row_said}
+use Rattle.bl_cards.specs.declared.kind.Role.TheVariants.{Extra}
+use Rattle.bl_mps.specs.Meaning.{or_zero, limited, objective_within, objective_in_units, objective_of, IsRowRead}
+use Rattle.bl_cards.specs.Lines.{objective_in}
+use Rattle.bl_cards.specs.Views.{Gives}
+use Rattle.bl_mps.specs.Views.{row_said}
 use Rattle.bl_mps.proofs.Programs.{objective_said_is, objective_read}
 use Rattle.bl_mps.proofs.finish.objective_at.Goals as goal
 

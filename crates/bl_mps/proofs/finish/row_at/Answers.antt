@@ -1,9 +1,8 @@
 use Rattle.std.proofs.Common.{◌∙◌, sym, ap, subst, List, [], get_or}
-use Rattle.bl_mps.specs.Said.{RowLine}
-use Rattle.bl_mps.specs.declared.kind.Role.TheVariants.{Extra}
-use Rattle.bl_mps.specs.Lines.{is_limited}
-use Rattle.bl_mps.specs.Meaning.{or_zero}
-use Rattle.bl_mps.specs.Coherence.{IsRowRead}
+use Rattle.bl_cards.specs.Said.{RowLine}
+use Rattle.bl_cards.specs.declared.kind.Role.TheVariants.{Extra}
+use Rattle.bl_cards.specs.Lines.{is_limited}
+use Rattle.bl_mps.specs.Meaning.{or_zero, IsRowRead}
 use Rattle.bl_mps.proofs.Programs.{said_is, row_read}
 use Rattle.bl_mps.proofs.finish.row_at.Goals as goal
 

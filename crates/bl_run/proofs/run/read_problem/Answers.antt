@@ -1,10 +1,10 @@
 use Rattle.std.proofs.Common.{Err, refl, ap, sym, ◌∙◌, subst}
 use Rattle.std.specs.declared.result.Result.{Result}
 use Rattle.bl_problem.specs.Program.{Program}
-use Rattle.bl_mps.specs.declared.fault.ModelFault.{ModelFault}
-use Rattle.bl_mps.specs.declared.fault.ModelFault.TheVariants.{At}
+use Rattle.bl_cards.specs.declared.fault.ModelFault.{ModelFault}
+use Rattle.bl_cards.specs.declared.fault.ModelFault.TheVariants.{At}
 use Rattle.bl_mps.specs.Reading.{read_of}
-use Rattle.bl_mps.specs.Views.{Reads}
+use Rattle.bl_cards.specs.Views.{Reads}
 use Rattle.bl_run.proofs.run.read_problem.Goals as goal
 
 pub returns-in-Err-At-clause-cause : goal.returns-in-Err-At-clause-cause

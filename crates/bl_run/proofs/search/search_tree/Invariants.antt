@@ -1,5 +1,6 @@
-use Rattle.std.proofs.Common.{◌≡◌}
+use Rattle.std.proofs.Common.{◌≡◌, ◌≤◌}
 use Rattle.bl_journal.specs.States.{used_of}
+use Rattle.bl_journal.specs.Tidying.{splits_of}
 use Rattle.bl_tree.specs.Views.{past_of}
 use Rattle.bl_run.specs.Searches.{IsBetweenTurns, settings_of}
 use Rattle.bl_run.proofs.search.search_tree.Given as goal
@@ -10,4 +11,6 @@ invariant-loop l = record {
   problem : l.tree.problem ≡ l.initial.tree.problem;
   settings : l.tree.settings ≡ settings_of l.nodes;
   used : used_of (past_of l.tree) ≡ l.counter;
+  splits : l.splits ≡ splits_of 0 (past_of l.tree);
+  few : l.splits ≤ l.counter;
 }

@@ -1,14 +1,23 @@
-use Rattle.std.proofs.Common.{rules, arith, ◌≡◌, ◌<◌, ◌+◌, [], ◌∷◌, ◌++◌, length, refl, length-append, ap, ◌∙◌}
-use Rattle.std.specs.Prelude.{FitsSigned}
+use Rattle.std.proofs.Common.{rules, arith, ◌≡◌, ◌<◌, ◌+◌, ◌||◌, ℕ, Bool, List, [], ◌∷◌, ◌++◌, length, refl, length-append, append_assoc, ap, sym, ◌∙◌, subst}
+use Rattle.std.specs.Prelude.{FitsSigned, ℤ, reverse}
 use Rattle.std.specs.Int.{int_max, w64, w128}
 use Rattle.std.proofs.lemmas.Int.{to_z-of_z}
 use mir.Val.{to_z, of_z}
 use Rattle.bl_problem.specs.Program.{Program}
-use Rattle.bl_tree.specs.Records.{is_explicit_piece, best_value_with, place_with}
+use Rattle.bl_problem.specs.declared.cut.Cut.{Cut}
+use Rattle.bl_desc.specs.declared.desc.Desc.{Desc}
+use Rattle.bl_desc.specs.declared.change.Change.{Change}
+use Rattle.bl_desc.specs.Changes.{changed}
+use Rattle.bl_journal.specs.Births.{nodes_of}
+use Rattle.bl_journal.specs.Descriptions.{left_child, right_child}
+use Rattle.bl_journal.proofs.Lines.{full_whole}
+use Rattle.bl_tree.proofs.Sets.{reverse-push}
+use Rattle.bl_tree.proofs.Covers.{IsCovered, covered_put, two_among}
+use Rattle.bl_tree.specs.Records.{best_value_with, place_with, improves, box_has_point}
 use Rattle.bl_journal.specs.declared.entry.Entry.{Entry}
 use Rattle.bl_journal.specs.declared.entry.Entry.TheVariants.{Put}
 use Rattle.bl_journal.specs.declared.entry.Step.TheVariants.{Shut, Split}
-use Rattle.bl_tree.proofs.Handed.{put_facts, split_pieces, shut_done, split_done, put_room}
+use Rattle.bl_tree.proofs.Handed.{put_facts, desc_is, shut_done, split_done, put_room}
 use Rattle.bl_tree.proofs.Kept.{kept_born}
 use Rattle.bl_tree.proofs.Waits.{out_counted, waits_shut, waits_split}
 use Rattle.bl_tree.proofs.Searches.{slice_get-is}
@@ -17,120 +26,120 @@ use Rattle.bl_tree.proofs.tree.Tree.put.Goals as goal
 
 pub overflow_sub-self : goal.overflow_sub-self
 overflow_sub-self c =
-    let lid : c.number_of-id.result ≡ c.args.lease.id = c.number_of-id.ensures in
-    let f = put_facts c.self.inside.problem c.self.inside.settings c.self.inside.journal.entries c.args.self.now c.args.seat c.args.lease c.args.outcome c.number_of-id.result _
+    let lid : c.parts_of-id.result.0 ≡ c.args.lease.id = c.parts_of-id.ensures.id in
+    let f = put_facts c.self.inside.problem c.self.inside.settings c.self.inside.journal.entries c.args.self.now c.args.seat c.args.lease c.args.outcome c.parts_of-id.result.0 _
     c.self.view_is lid refl c.requires in
-    let o = out_counted _ _ _ _ _ _ _ _ c.number_of-id.result c.args.seat c.self.inside.outs c.self.invariant.follows f.may.is_out c.self.invariant.outs_is in
+    let o = out_counted _ _ _ _ _ _ _ _ c.parts_of-id.result.0 c.args.seat c.self.inside.outs c.self.invariant.follows f.may.is_out c.self.invariant.outs_is in
     omega (arith, o)
-
-pub index_mut-requires : goal.index_mut-requires
-index_mut-requires c =
-    let lid : c.number_of-id.result ≡ c.args.lease.id = c.number_of-id.ensures in
-    let f = put_facts c.self.inside.problem c.self.inside.settings c.self.inside.journal.entries c.args.self.now c.args.seat c.args.lease c.args.outcome c.number_of-id.result _
-    c.self.view_is lid c.in-Shut.is c.requires in
-    let b : c.number_of-id.result < length c.self.inside.records.items = kept_born _ _ _ _ _ _ _ _ c.number_of-id.result c.args.seat c.self.invariant.follows f.may.is_out in
-    let k : length c.self.inside.records.items ≡ c.self.inside.records.len = search rules in
-    omega (arith, b, k)
 
 pub push_reserved-requires : goal.push_reserved-requires
 push_reserved-requires c =
-    let lid : c.number_of-id.result ≡ c.args.lease.id = c.number_of-id.ensures in
-    let f = put_facts c.self.inside.problem c.self.inside.settings c.self.inside.journal.entries c.args.self.now c.args.seat c.args.lease c.args.outcome c.number_of-id.result _
+    let lid : c.parts_of-id.result.0 ≡ c.args.lease.id = c.parts_of-id.ensures.id in
+    let f = put_facts c.self.inside.problem c.self.inside.settings c.self.inside.journal.entries c.args.self.now c.args.seat c.args.lease c.args.outcome c.parts_of-id.result.0 _
+    c.self.view_is lid refl c.requires in
+    let o = out_counted _ _ _ _ _ _ _ _ c.parts_of-id.result.0 c.args.seat c.self.inside.outs c.self.invariant.follows f.may.is_out c.self.invariant.outs_is in
+    let room = c.self.invariant.candidate_room in
+    let k : length c.self.inside.candidates.items ≡ c.self.inside.candidates.len = search rules in
+    omega (arith, o, room, k)
+
+pub index_mut-requires : goal.index_mut-requires
+index_mut-requires c =
+    let lid : c.parts_of-id.result.0 ≡ c.args.lease.id = c.parts_of-id.ensures.id in
+    let f = put_facts c.self.inside.problem c.self.inside.settings c.self.inside.journal.entries c.args.self.now c.args.seat c.args.lease c.args.outcome c.parts_of-id.result.0 _
     c.self.view_is lid c.in-Shut.is c.requires in
-    let b : c.number_of-id.result < length c.self.inside.records.items = kept_born _ _ _ _ _ _ _ _ c.number_of-id.result c.args.seat c.self.invariant.follows f.may.is_out in
-    let e = slice_get-is c.self.inside.records.items c.number_of-id.result c.index_mut.result.now b c.index_mut.ensures.value in
-    let room = put_room _ _ _ _ _ _ _ _ c.number_of-id.result c.args.seat c.index_mut.result.now c.self.invariant.follows f.may.is_out e in
+    let b : c.parts_of-id.result.0 < length c.self.inside.records.items = kept_born _ _ _ _ _ _ _ _ c.parts_of-id.result.0 c.args.seat c.self.invariant.follows f.may.is_out in
+    let k : length c.self.inside.records.items ≡ c.self.inside.records.len = search rules in
+    omega (arith, b, k)
+
+pub push_reserved-requires-in-Shut : goal.push_reserved-requires-in-Shut
+push_reserved-requires-in-Shut c =
+    let lid : c.parts_of-id.result.0 ≡ c.args.lease.id = c.parts_of-id.ensures.id in
+    let f = put_facts c.self.inside.problem c.self.inside.settings c.self.inside.journal.entries c.args.self.now c.args.seat c.args.lease c.args.outcome c.parts_of-id.result.0 _
+    c.self.view_is lid c.in-Shut.is c.requires in
+    let b : c.parts_of-id.result.0 < length c.self.inside.records.items = kept_born _ _ _ _ _ _ _ _ c.parts_of-id.result.0 c.args.seat c.self.invariant.follows f.may.is_out in
+    let e = slice_get-is c.self.inside.records.items c.parts_of-id.result.0 c.index_mut.result.now b c.index_mut.ensures.value in
+    let room = put_room _ _ _ _ _ _ _ _ c.parts_of-id.result.0 c.args.seat c.index_mut.result.now c.self.invariant.follows f.may.is_out e in
     room.room_left
 
 pub invariant_of-self : goal.invariant_of-self
 invariant_of-self c =
-    let lid : c.number_of-id.result ≡ c.args.lease.id = c.number_of-id.ensures in
-    let f = put_facts c.self.inside.problem c.self.inside.settings c.self.inside.journal.entries c.args.self.now c.args.seat c.args.lease c.args.outcome c.number_of-id.result _
+    let lid : c.parts_of-id.result.0 ≡ c.args.lease.id = c.parts_of-id.ensures.id in
+    let f = put_facts c.self.inside.problem c.self.inside.settings c.self.inside.journal.entries c.args.self.now c.args.seat c.args.lease c.args.outcome c.parts_of-id.result.0 _
     c.self.view_is lid c.in-Shut.is c.requires in
-    let b : c.number_of-id.result < length c.self.inside.records.items = kept_born _ _ _ _ _ _ _ _ c.number_of-id.result c.args.seat c.self.invariant.follows f.may.is_out in
-    let e = slice_get-is c.self.inside.records.items c.number_of-id.result c.index_mut.result.now b c.index_mut.ensures.value in
-    let room = put_room _ _ _ _ _ _ _ _ c.number_of-id.result c.args.seat c.index_mut.result.now c.self.invariant.follows f.may.is_out e in
+    let b : c.parts_of-id.result.0 < length c.self.inside.records.items = kept_born _ _ _ _ _ _ _ _ c.parts_of-id.result.0 c.args.seat c.self.invariant.follows f.may.is_out in
+    let e = slice_get-is c.self.inside.records.items c.parts_of-id.result.0 c.index_mut.result.now b c.index_mut.ensures.value in
+    let room = put_room _ _ _ _ _ _ _ _ c.parts_of-id.result.0 c.args.seat c.index_mut.result.now c.self.invariant.follows f.may.is_out e in
     let is_best : c.best_after-self-inside.result ≡ best_value_with c.self.inside.problem c.self.inside.best c.args.outcome.found =
     c.best_after-self-inside.ensures ∙ ap (λ (p : Program). best_value_with p c.self.inside.best c.args.outcome.found) c.get-problem.ensures in
     let fit : FitsSigned w128 c.args.outcome.low = search rules in
     let low : to_z w128 (of_z w128 c.args.outcome.low) ≡ c.args.outcome.low = to_z-of_z w128 _ fit in
-    let pushed : c.push_reserved.new.self.entries ≡ c.self.inside.journal.entries ++ c.put_of.result ∷ [] = c.push_reserved.ensures.entries in
-    let made : c.push_reserved.new.self.entries ≡ c.self.inside.journal.entries ++ Put c.args.seat c.number_of-id.result c.args.outcome.found c.args.outcome.low Shut ∷ [] =
-    pushed ∙ ap (λ (e : Entry). c.self.inside.journal.entries ++ e ∷ []) (c.put_of.ensures ∙ ap (λ z. Put c.args.seat c.number_of-id.result c.args.outcome.found z Shut) low) in
+    let pushed : c.push_reserved-in-Shut.new.self.entries ≡ c.self.inside.journal.entries ++ c.put_of.result ∷ [] = c.push_reserved-in-Shut.ensures.entries in
+    let made : c.push_reserved-in-Shut.new.self.entries ≡ c.self.inside.journal.entries ++ Put c.args.seat c.parts_of-id.result.0 c.args.outcome.found c.args.outcome.low Shut ∷ [] =
+    pushed ∙ ap (λ (e : Entry). c.self.inside.journal.entries ++ e ∷ []) (c.put_of.ensures ∙ ap (λ z. Put c.args.seat c.parts_of-id.result.0 c.args.outcome.found z Shut) low) in
     let place = c.place_after-self-inside.ensures ∙ (ap (λ (p : Program). place_with p c.self.inside.best c.args.outcome.found c.self.inside.best_place c.len-now.result) c.get-problem.ensures
     ∙ ap (place_with c.self.inside.problem c.self.inside.best c.args.outcome.found c.self.inside.best_place) c.len-now.ensures) in
-    let waits = waits_shut _ _ _ _ _ _ _ _ c.number_of-id.result c.args.seat c.index_mut.result.now c.self.inside.waiting.items c.self.inside.outs c.self.invariant.follows f.may.is_out e
+    let waits = waits_shut _ _ _ _ _ _ _ _ c.parts_of-id.result.0 c.args.seat c.index_mut.result.now c.self.inside.waiting.items c.self.inside.outs c.self.invariant.follows f.may.is_out e
     (record { numbers = c.self.invariant.waiting_is; count = c.self.invariant.outs_is }) in
     let old = c.self.invariant.waiting_room in
+    let better : c.is_better.result ≡ improves c.self.inside.problem c.self.inside.best c.args.outcome.found =
+    c.is_better.ensures ∙ ap (λ (p : Program). improves p c.self.inside.best c.args.outcome.found) c.get-problem.ensures in
+    let some = out_counted _ _ _ _ _ _ _ _ c.parts_of-id.result.0 c.args.seat c.self.inside.outs c.self.invariant.follows f.may.is_out c.self.invariant.outs_is in
+    let cands = c.self.invariant.candidate_room in
+    let longer_cands = ap length c.push_reserved.ensures.items ∙ length-append c.self.inside.candidates.items (c.parts_of-id.result.0 ∷ []) in
+    let broad = c.push_reserved.ensures.capacity in
     record {
       waiting_is = waits.numbers;
       waiting_room = omega (arith, old);
       outs_is = waits.count;
-      follows = shut_done _ _ _ _ _ _ _ _ _ _ _ c.number_of-id.result c.args.seat c.args.outcome c.index_mut.result.now c.self.invariant.follows f e c.push_reserved.ensures.room made is_best;
-      stands = stands_put c.self.inside.problem c.self.inside.journal.entries _ c.args.seat c.number_of-id.result c.args.outcome.found c.args.outcome.low Shut c.self.inside.best c.self.inside.best_place _ made
+      follows = shut_done _ _ _ _ _ _ _ _ _ _ _ c.parts_of-id.result.0 c.args.seat c.args.lease c.args.outcome c.index_mut.result.now c.self.invariant.follows f e c.push_reserved-in-Shut.ensures.room made is_best;
+      stands = stands_put c.self.inside.problem c.self.inside.journal.entries _ c.args.seat c.parts_of-id.result.0 c.args.outcome.found c.args.outcome.low Shut c.self.inside.best c.self.inside.best_place _ made
           c.self.invariant.follows.best_is place c.self.invariant.stands;
+      covered = rw (made, reverse-push c.self.inside.journal.entries (Put c.args.seat c.parts_of-id.result.0 c.args.outcome.found c.args.outcome.low Shut), c.push_reserved.ensures.items)
+          (subst (λ (b : Bool). IsCovered c.self.inside.problem c.self.inside.settings (Put c.args.seat c.parts_of-id.result.0 c.args.outcome.found c.args.outcome.low Shut ∷ reverse c.self.inside.journal.entries)
+          (c.self.inside.candidates.items ++ c.parts_of-id.result.0 ∷ []) (c.self.inside.fell || b)) (sym better)
+          (covered_put c.self.inside.problem c.self.inside.settings (reverse c.self.inside.journal.entries) c.self.inside.candidates.items [] c.self.inside.fell c.self.inside.best c.args.seat c.parts_of-id.result.0 c.args.outcome.found
+          c.args.outcome.low Shut f.may.is_out c.self.invariant.follows.best_is (λ q lo hi. absurd (omega (arith, lo, hi))) c.self.invariant.covered));
+      candidate_room = omega (arith, some, cands, longer_cands, broad);
     }
 
 pub index_mut-parent-requires : goal.index_mut-parent-requires
 index_mut-parent-requires c =
-    let lid : c.number_of-id.result ≡ c.args.lease.id = c.number_of-id.ensures in
-    let f = put_facts c.self.inside.problem c.self.inside.settings c.self.inside.journal.entries c.args.self.now c.args.seat c.args.lease c.args.outcome c.number_of-id.result _
+    let lid : c.parts_of-id.result.0 ≡ c.args.lease.id = c.parts_of-id.ensures.id in
+    let f = put_facts c.self.inside.problem c.self.inside.settings c.self.inside.journal.entries c.args.self.now c.args.seat c.args.lease c.args.outcome c.parts_of-id.result.0 _
     c.self.view_is lid c.in-Split.is c.requires in
-    let b : c.number_of-id.result < length c.self.inside.records.items = kept_born _ _ _ _ _ _ _ _ c.number_of-id.result c.args.seat c.self.invariant.follows f.may.is_out in
+    let b : c.parts_of-id.result.0 < length c.self.inside.records.items = kept_born _ _ _ _ _ _ _ _ c.parts_of-id.result.0 c.args.seat c.self.invariant.follows f.may.is_out in
     let k : length c.self.inside.records.items ≡ c.self.inside.records.len = search rules in
     omega (arith, b, k)
 
 pub overflow_add-depth : goal.overflow_add-depth
 overflow_add-depth c =
-    let lid : c.number_of-id.result ≡ c.args.lease.id = c.number_of-id.ensures in
-    let f = put_facts c.self.inside.problem c.self.inside.settings c.self.inside.journal.entries c.args.self.now c.args.seat c.args.lease c.args.outcome c.number_of-id.result _
+    let lid : c.parts_of-id.result.0 ≡ c.args.lease.id = c.parts_of-id.ensures.id in
+    let f = put_facts c.self.inside.problem c.self.inside.settings c.self.inside.journal.entries c.args.self.now c.args.seat c.args.lease c.args.outcome c.parts_of-id.result.0 _
     c.self.view_is lid c.in-Split.is c.requires in
-    let b : c.number_of-id.result < length c.self.inside.records.items = kept_born _ _ _ _ _ _ _ _ c.number_of-id.result c.args.seat c.self.invariant.follows f.may.is_out in
-    let e = slice_get-is c.self.inside.records.items c.number_of-id.result c.index_mut-parent.result.now b c.index_mut-parent.ensures.value in
-    let room = put_room _ _ _ _ _ _ _ _ c.number_of-id.result c.args.seat c.index_mut-parent.result.now c.self.invariant.follows f.may.is_out e in
+    let b : c.parts_of-id.result.0 < length c.self.inside.records.items = kept_born _ _ _ _ _ _ _ _ c.parts_of-id.result.0 c.args.seat c.self.invariant.follows f.may.is_out in
+    let e = slice_get-is c.self.inside.records.items c.parts_of-id.result.0 c.index_mut-parent.result.now b c.index_mut-parent.ensures.value in
+    let room = put_room _ _ _ _ _ _ _ _ c.parts_of-id.result.0 c.args.seat c.index_mut-parent.result.now c.self.invariant.follows f.may.is_out e in
     let shallow = room.shallow in omega (arith, shallow)
-
-pub explicit_of-requires : goal.explicit_of-requires
-explicit_of-requires c =
-    let lid : c.number_of-id.result ≡ c.args.lease.id = c.number_of-id.ensures in
-    let f = put_facts c.self.inside.problem c.self.inside.settings c.self.inside.journal.entries c.args.self.now c.args.seat c.args.lease c.args.outcome c.number_of-id.result _
-    c.self.view_is lid c.in-Split.is c.requires in
-    let b : c.number_of-id.result < length c.self.inside.records.items = kept_born _ _ _ _ _ _ _ _ c.number_of-id.result c.args.seat c.self.invariant.follows f.may.is_out in
-    let e = slice_get-is c.self.inside.records.items c.number_of-id.result c.index_mut-parent.result.now b c.index_mut-parent.ensures.value in
-    let room = put_room _ _ _ _ _ _ _ _ c.number_of-id.result c.args.seat c.index_mut-parent.result.now c.self.invariant.follows f.may.is_out e in
-    let pieces = split_pieces c.self.inside.problem c.self.inside.settings c.self.inside.journal.entries c.args.seat c.number_of-id.result c.args.outcome _ _ _ _ _ c.self.invariant.follows.span f in
-    ap is_explicit_piece pieces.left_is
 
 pub push_reserved-requires-in-Split : goal.push_reserved-requires-in-Split
 push_reserved-requires-in-Split c =
-    let lid : c.number_of-id.result ≡ c.args.lease.id = c.number_of-id.ensures in
-    let f = put_facts c.self.inside.problem c.self.inside.settings c.self.inside.journal.entries c.args.self.now c.args.seat c.args.lease c.args.outcome c.number_of-id.result _
+    let lid : c.parts_of-id.result.0 ≡ c.args.lease.id = c.parts_of-id.ensures.id in
+    let f = put_facts c.self.inside.problem c.self.inside.settings c.self.inside.journal.entries c.args.self.now c.args.seat c.args.lease c.args.outcome c.parts_of-id.result.0 _
     c.self.view_is lid c.in-Split.is c.requires in
-    let b : c.number_of-id.result < length c.self.inside.records.items = kept_born _ _ _ _ _ _ _ _ c.number_of-id.result c.args.seat c.self.invariant.follows f.may.is_out in
-    let e = slice_get-is c.self.inside.records.items c.number_of-id.result c.index_mut-parent.result.now b c.index_mut-parent.ensures.value in
-    let room = put_room _ _ _ _ _ _ _ _ c.number_of-id.result c.args.seat c.index_mut-parent.result.now c.self.invariant.follows f.may.is_out e in
+    let b : c.parts_of-id.result.0 < length c.self.inside.records.items = kept_born _ _ _ _ _ _ _ _ c.parts_of-id.result.0 c.args.seat c.self.invariant.follows f.may.is_out in
+    let e = slice_get-is c.self.inside.records.items c.parts_of-id.result.0 c.index_mut-parent.result.now b c.index_mut-parent.ensures.value in
+    let room = put_room _ _ _ _ _ _ _ _ c.parts_of-id.result.0 c.args.seat c.index_mut-parent.result.now c.self.invariant.follows f.may.is_out e in
     let k : length c.self.inside.records.items ≡ c.self.inside.records.len = search rules in
     let two = room.two_left in omega (arith, two, k)
 
-pub explicit_of-requires-in-Split : goal.explicit_of-requires-in-Split
-explicit_of-requires-in-Split c =
-    let lid : c.number_of-id.result ≡ c.args.lease.id = c.number_of-id.ensures in
-    let f = put_facts c.self.inside.problem c.self.inside.settings c.self.inside.journal.entries c.args.self.now c.args.seat c.args.lease c.args.outcome c.number_of-id.result _
-    c.self.view_is lid c.in-Split.is c.requires in
-    let b : c.number_of-id.result < length c.self.inside.records.items = kept_born _ _ _ _ _ _ _ _ c.number_of-id.result c.args.seat c.self.invariant.follows f.may.is_out in
-    let e = slice_get-is c.self.inside.records.items c.number_of-id.result c.index_mut-parent.result.now b c.index_mut-parent.ensures.value in
-    let room = put_room _ _ _ _ _ _ _ _ c.number_of-id.result c.args.seat c.index_mut-parent.result.now c.self.invariant.follows f.may.is_out e in
-    let pieces = split_pieces c.self.inside.problem c.self.inside.settings c.self.inside.journal.entries c.args.seat c.number_of-id.result c.args.outcome _ _ _ _ _ c.self.invariant.follows.span f in
-    ap is_explicit_piece pieces.right_is
-
 pub push_reserved-requires-in-Split-2 : goal.push_reserved-requires-in-Split-2
 push_reserved-requires-in-Split-2 c =
-    let lid : c.number_of-id.result ≡ c.args.lease.id = c.number_of-id.ensures in
-    let f = put_facts c.self.inside.problem c.self.inside.settings c.self.inside.journal.entries c.args.self.now c.args.seat c.args.lease c.args.outcome c.number_of-id.result _
+    let lid : c.parts_of-id.result.0 ≡ c.args.lease.id = c.parts_of-id.ensures.id in
+    let f = put_facts c.self.inside.problem c.self.inside.settings c.self.inside.journal.entries c.args.self.now c.args.seat c.args.lease c.args.outcome c.parts_of-id.result.0 _
     c.self.view_is lid c.in-Split.is c.requires in
-    let b : c.number_of-id.result < length c.self.inside.records.items = kept_born _ _ _ _ _ _ _ _ c.number_of-id.result c.args.seat c.self.invariant.follows f.may.is_out in
-    let e = slice_get-is c.self.inside.records.items c.number_of-id.result c.index_mut-parent.result.now b c.index_mut-parent.ensures.value in
-    let room = put_room _ _ _ _ _ _ _ _ c.number_of-id.result c.args.seat c.index_mut-parent.result.now c.self.invariant.follows f.may.is_out e in
+    let b : c.parts_of-id.result.0 < length c.self.inside.records.items = kept_born _ _ _ _ _ _ _ _ c.parts_of-id.result.0 c.args.seat c.self.invariant.follows f.may.is_out in
+    let e = slice_get-is c.self.inside.records.items c.parts_of-id.result.0 c.index_mut-parent.result.now b c.index_mut-parent.ensures.value in
+    let room = put_room _ _ _ _ _ _ _ _ c.parts_of-id.result.0 c.args.seat c.index_mut-parent.result.now c.self.invariant.follows f.may.is_out e in
     let k : length c.self.inside.records.items ≡ c.self.inside.records.len = search rules in
     let two = room.two_left in
     let len = c.push_reserved-in-Split.ensures.len in
@@ -139,31 +148,31 @@ push_reserved-requires-in-Split-2 c =
 
 pub append_two-requires-clause-room : goal.append_two-requires-clause-room
 append_two-requires-clause-room c =
-    let lid : c.number_of-id.result ≡ c.args.lease.id = c.number_of-id.ensures in
-    let f = put_facts c.self.inside.problem c.self.inside.settings c.self.inside.journal.entries c.args.self.now c.args.seat c.args.lease c.args.outcome c.number_of-id.result _
+    let lid : c.parts_of-id.result.0 ≡ c.args.lease.id = c.parts_of-id.ensures.id in
+    let f = put_facts c.self.inside.problem c.self.inside.settings c.self.inside.journal.entries c.args.self.now c.args.seat c.args.lease c.args.outcome c.parts_of-id.result.0 _
     c.self.view_is lid c.in-Split.is c.requires in
-    let o = out_counted _ _ _ _ _ _ _ _ c.number_of-id.result c.args.seat c.self.inside.outs c.self.invariant.follows f.may.is_out c.self.invariant.outs_is in
+    let o = out_counted _ _ _ _ _ _ _ _ c.parts_of-id.result.0 c.args.seat c.self.inside.outs c.self.invariant.follows f.may.is_out c.self.invariant.outs_is in
     let old = c.self.invariant.waiting_room in
     omega (arith, o, old)
 
 pub push_reserved-requires-in-Split-3 : goal.push_reserved-requires-in-Split-3
 push_reserved-requires-in-Split-3 c =
-    let lid : c.number_of-id.result ≡ c.args.lease.id = c.number_of-id.ensures in
-    let f = put_facts c.self.inside.problem c.self.inside.settings c.self.inside.journal.entries c.args.self.now c.args.seat c.args.lease c.args.outcome c.number_of-id.result _
+    let lid : c.parts_of-id.result.0 ≡ c.args.lease.id = c.parts_of-id.ensures.id in
+    let f = put_facts c.self.inside.problem c.self.inside.settings c.self.inside.journal.entries c.args.self.now c.args.seat c.args.lease c.args.outcome c.parts_of-id.result.0 _
     c.self.view_is lid c.in-Split.is c.requires in
-    let b : c.number_of-id.result < length c.self.inside.records.items = kept_born _ _ _ _ _ _ _ _ c.number_of-id.result c.args.seat c.self.invariant.follows f.may.is_out in
-    let e = slice_get-is c.self.inside.records.items c.number_of-id.result c.index_mut-parent.result.now b c.index_mut-parent.ensures.value in
-    let room = put_room _ _ _ _ _ _ _ _ c.number_of-id.result c.args.seat c.index_mut-parent.result.now c.self.invariant.follows f.may.is_out e in
+    let b : c.parts_of-id.result.0 < length c.self.inside.records.items = kept_born _ _ _ _ _ _ _ _ c.parts_of-id.result.0 c.args.seat c.self.invariant.follows f.may.is_out in
+    let e = slice_get-is c.self.inside.records.items c.parts_of-id.result.0 c.index_mut-parent.result.now b c.index_mut-parent.ensures.value in
+    let room = put_room _ _ _ _ _ _ _ _ c.parts_of-id.result.0 c.args.seat c.index_mut-parent.result.now c.self.invariant.follows f.may.is_out e in
     room.room_left
 
 pub invariant_of-self-in-Split : goal.invariant_of-self-in-Split
 invariant_of-self-in-Split c =
-    let lid : c.number_of-id.result ≡ c.args.lease.id = c.number_of-id.ensures in
-    let f = put_facts c.self.inside.problem c.self.inside.settings c.self.inside.journal.entries c.args.self.now c.args.seat c.args.lease c.args.outcome c.number_of-id.result _
+    let lid : c.parts_of-id.result.0 ≡ c.args.lease.id = c.parts_of-id.ensures.id in
+    let f = put_facts c.self.inside.problem c.self.inside.settings c.self.inside.journal.entries c.args.self.now c.args.seat c.args.lease c.args.outcome c.parts_of-id.result.0 _
     c.self.view_is lid c.in-Split.is c.requires in
-    let b : c.number_of-id.result < length c.self.inside.records.items = kept_born _ _ _ _ _ _ _ _ c.number_of-id.result c.args.seat c.self.invariant.follows f.may.is_out in
-    let e = slice_get-is c.self.inside.records.items c.number_of-id.result c.index_mut-parent.result.now b c.index_mut-parent.ensures.value in
-    let room = put_room _ _ _ _ _ _ _ _ c.number_of-id.result c.args.seat c.index_mut-parent.result.now c.self.invariant.follows f.may.is_out e in
+    let b : c.parts_of-id.result.0 < length c.self.inside.records.items = kept_born _ _ _ _ _ _ _ _ c.parts_of-id.result.0 c.args.seat c.self.invariant.follows f.may.is_out in
+    let e = slice_get-is c.self.inside.records.items c.parts_of-id.result.0 c.index_mut-parent.result.now b c.index_mut-parent.ensures.value in
+    let room = put_room _ _ _ _ _ _ _ _ c.parts_of-id.result.0 c.args.seat c.index_mut-parent.result.now c.self.invariant.follows f.may.is_out e in
     let is_best : c.best_after-self-inside.result ≡ best_value_with c.self.inside.problem c.self.inside.best c.args.outcome.found =
     c.best_after-self-inside.ensures ∙ ap (λ (p : Program). best_value_with p c.self.inside.best c.args.outcome.found) c.get-problem.ensures in
     let fit : FitsSigned w128 c.args.outcome.low = search rules in
@@ -171,10 +180,10 @@ invariant_of-self-in-Split c =
     let pushed : c.push_reserved-in-Split-3.new.self.entries ≡ c.self.inside.journal.entries ++ c.put_of-in-Split.result ∷ [] = c.push_reserved-in-Split-3.ensures.entries in
     let fit_at : FitsSigned w64 c.in-Split.at = search rules in
     let at : to_z w64 (of_z w64 c.in-Split.at) ≡ c.in-Split.at = to_z-of_z w64 _ fit_at in
-    let is : c.put_of-in-Split.result ≡ Put c.args.seat c.number_of-id.result c.args.outcome.found c.args.outcome.low (Split c.in-Split.common c.in-Split.column c.in-Split.at) =
+    let is : c.put_of-in-Split.result ≡ Put c.args.seat c.parts_of-id.result.0 c.args.outcome.found c.args.outcome.low (Split c.in-Split.common c.in-Split.column c.in-Split.at) =
     c.put_of-in-Split.ensures
-    ∙ (ap (λ z. Put c.args.seat c.number_of-id.result c.args.outcome.found z (Split c.in-Split.common c.in-Split.column (to_z w64 (of_z w64 c.in-Split.at)))) low
-    ∙ ap (λ z. Put c.args.seat c.number_of-id.result c.args.outcome.found c.args.outcome.low (Split c.in-Split.common c.in-Split.column z)) at) in
+    ∙ (ap (λ z. Put c.args.seat c.parts_of-id.result.0 c.args.outcome.found z (Split c.in-Split.common c.in-Split.column (to_z w64 (of_z w64 c.in-Split.at)))) low
+    ∙ ap (λ z. Put c.args.seat c.parts_of-id.result.0 c.args.outcome.found c.args.outcome.low (Split c.in-Split.common c.in-Split.column z)) at) in
     let made = pushed ∙ ap (λ (e : Entry). c.self.inside.journal.entries ++ e ∷ []) is in
     let fit' : FitsSigned w128 c.index_mut-parent.result.now.low = search rules in
     let fit_max : FitsSigned w128 c.max-child_low.result = search rules in
@@ -182,22 +191,66 @@ invariant_of-self-in-Split c =
     let place = c.place_after-self-inside.ensures ∙ (ap (λ (p : Program). place_with p c.self.inside.best c.args.outcome.found c.self.inside.best_place c.len-now.result) c.get-problem.ensures
     ∙ ap (place_with c.self.inside.problem c.self.inside.best c.args.outcome.found c.self.inside.best_place) c.len-now.ensures) in
     let len : c.len-count.result ≡ length c.self.inside.records.items = search rules in
-    let waits = waits_split _ _ _ _ _ _ _ _ _ _ c.number_of-id.result c.args.seat c.len-count.result _ _ _ _ c.index_mut-parent.result.now _ _ c.self.inside.waiting.items _ c.self.inside.outs
+    let waits = waits_split _ _ _ _ _ _ _ _ _ _ c.parts_of-id.result.0 c.args.seat c.len-count.result _ _ _ _ _ _ c.index_mut-parent.result.now _ _ c.self.inside.waiting.items _ c.self.inside.outs
     c.self.invariant.follows f.may.is_out e (record { numbers = c.self.invariant.waiting_is; count = c.self.invariant.outs_is })
     c.new_record.ensures c.new_record-in-Split.ensures c.push_reserved-in-Split.ensures.items c.push_reserved-in-Split-2.ensures.items len c.append_two.ensures.items in
-    let o = out_counted _ _ _ _ _ _ _ _ c.number_of-id.result c.args.seat c.self.inside.outs c.self.invariant.follows f.may.is_out c.self.invariant.outs_is in
+    let o = out_counted _ _ _ _ _ _ _ _ c.parts_of-id.result.0 c.args.seat c.self.inside.outs c.self.invariant.follows f.may.is_out c.self.invariant.outs_is in
     let old = c.self.invariant.waiting_room in
     let longer : length c.append_two.new.numbers.items ≡ length c.self.inside.waiting.items + 2 = ap length c.append_two.ensures.items ∙ length-append c.self.inside.waiting.items _ in
     let wide = c.append_two.ensures.capacity in
+    let full = desc_is c.self.inside.problem c.self.inside.settings c.self.inside.journal.entries c.args.seat c.parts_of-id.result.0 c.args.lease c.args.outcome _ c.parts_of-id.result.1 f c.parts_of-id.ensures.desc in
+    let better : c.is_better.result ≡ improves c.self.inside.problem c.self.inside.best c.args.outcome.found =
+    c.is_better.ensures ∙ ap (λ (p : Program). improves p c.self.inside.best c.args.outcome.found) c.get-problem.ensures in
+    let child : (Desc Cut → ℕ → ℤ → Desc Cut) → ℤ → Change Cut → Bool = λ which z x. box_has_point (which (changed x c.parts_of-id.result.1) c.in-Split.column z) in
+    let opens_left = c.have_points-left_open.ensures.left ∙ (ap (λ (z : ℤ). child left_child z c.get.result.now) at ∙ ap (child left_child c.in-Split.at) c.get.ensures) in
+    let opens_right = c.have_points-left_open.ensures.right ∙ (ap (λ (z : ℤ). child right_child z c.get.result.now) at ∙ ap (child right_child c.in-Split.at) c.get.ensures) in
+    let n : c.len-count.result ≡ length (nodes_of c.self.inside.problem (reverse c.self.inside.journal.entries)) = len ∙ c.self.invariant.follows.records.count in
+    let e0 : Entry = Put c.args.seat c.parts_of-id.result.0 c.args.outcome.found c.args.outcome.low (Split c.in-Split.common c.in-Split.column c.in-Split.at) in
+    let grown : length (nodes_of c.self.inside.problem (e0 ∷ reverse c.self.inside.journal.entries)) ≡ length (nodes_of c.self.inside.problem (reverse c.self.inside.journal.entries)) + 2 =
+    length-append (nodes_of c.self.inside.problem (reverse c.self.inside.journal.entries)) _ in
+    let new : List ℕ = c.len-count.result ∷ (c.len-count.result + 1) ∷ [] in
+    let listed : c.append_two-in-Split.new.numbers.items ≡ c.self.inside.candidates.items ++ c.parts_of-id.result.0 ∷ new =
+    c.append_two-in-Split.ensures.items ∙ (ap (λ (l : List ℕ). l ++ new) c.push_reserved.ensures.items ∙ append_assoc c.self.inside.candidates.items (c.parts_of-id.result.0 ∷ []) new) in
+    let cands = c.self.invariant.candidate_room in
+    let longer_cands = ap length listed ∙ length-append c.self.inside.candidates.items (c.parts_of-id.result.0 ∷ new) in
+    let broad = c.append_two-in-Split.ensures.capacity in
+    let broad' = c.push_reserved.ensures.capacity in
     record {
+      covered = rw (made, reverse-push c.self.inside.journal.entries e0, listed)
+          (subst (λ (b : Bool). IsCovered c.self.inside.problem c.self.inside.settings (e0 ∷ reverse c.self.inside.journal.entries) (c.self.inside.candidates.items ++ c.parts_of-id.result.0 ∷ new) (c.self.inside.fell || b)) (sym better)
+          (covered_put c.self.inside.problem c.self.inside.settings (reverse c.self.inside.journal.entries) c.self.inside.candidates.items new c.self.inside.fell c.self.inside.best c.args.seat c.parts_of-id.result.0 c.args.outcome.found
+          c.args.outcome.low (Split c.in-Split.common c.in-Split.column c.in-Split.at) f.may.is_out c.self.invariant.follows.best_is
+          (λ q lo hi. two_among q c.len-count.result (omega (arith, lo, n)) (omega (arith, hi, grown, n))) c.self.invariant.covered));
+      candidate_room = omega (arith, o, cands, longer_cands, broad, broad');
       waiting_is = waits.numbers;
       waiting_room = omega (arith, o, old, longer, wide);
       outs_is = waits.count;
-      follows = split_done _ _ _ _ _ _ _ _ _ _ _ _ _ _ c.number_of-id.result c.args.seat c.args.outcome c.in-Split.common c.in-Split.column c.in-Split.at c.in-Split.left c.in-Split.right c.index_mut-parent.result.now _ _ _ _ _
+      follows = split_done _ _ _ _ _ _ _ _ _ _ _ _ _ _ c.parts_of-id.result.0 c.args.seat c.len-count.result c.args.lease c.args.outcome c.in-Split.common c.in-Split.column c.in-Split.at c.in-Split.left c.in-Split.right c.index_mut-parent.result.now _ _ c.parts_of-id.result.1 _ _ _
           c.self.invariant.follows f e c.push_reserved-in-Split-3.ensures.room
           (c.push_reserved-in-Split-2.ensures.capacity ∙ c.push_reserved-in-Split.ensures.capacity)
-          c.explicit_of.ensures c.explicit_of-in-Split.ensures above c.new_record.ensures c.new_record-in-Split.ensures
+          len full opens_left opens_right above c.new_record.ensures c.new_record-in-Split.ensures
           c.push_reserved-in-Split.ensures.items c.push_reserved-in-Split-2.ensures.items made is_best;
-      stands = stands_put c.self.inside.problem c.self.inside.journal.entries _ c.args.seat c.number_of-id.result c.args.outcome.found c.args.outcome.low (Split c.in-Split.common c.in-Split.column c.in-Split.at)
+      stands = stands_put c.self.inside.problem c.self.inside.journal.entries _ c.args.seat c.parts_of-id.result.0 c.args.outcome.found c.args.outcome.low (Split c.in-Split.common c.in-Split.column c.in-Split.at)
           c.self.inside.best c.self.inside.best_place _ made c.self.invariant.follows.best_is place c.self.invariant.stands;
     }
+
+pub have_points-left_open-requires-clause-high : goal.have_points-left_open-requires-clause-high
+have_points-left_open-requires-clause-high c =
+    let f = put_facts c.self.inside.problem c.self.inside.settings c.self.inside.journal.entries c.args.self.now c.args.seat c.args.lease c.args.outcome c.parts_of-id.result.0 _
+    c.self.view_is c.parts_of-id.ensures.id c.in-Split.is c.requires in
+    let full = desc_is c.self.inside.problem c.self.inside.settings c.self.inside.journal.entries c.args.seat c.parts_of-id.result.0 c.args.lease c.args.outcome _ c.parts_of-id.result.1 f c.parts_of-id.ensures.desc in
+    let whole = (full_whole c.self.inside.problem (reverse c.self.inside.journal.entries) c.parts_of-id.result.0).highs in
+    let column = f.may.sound.next_ok.column_in in
+    let same = ap (λ (d : Desc Cut). length d.highs) full in
+    omega (arith, whole, column, same)
+
+pub append_two-requires-in-Split-clause-room : goal.append_two-requires-in-Split-clause-room
+append_two-requires-in-Split-clause-room c =
+    let lid : c.parts_of-id.result.0 ≡ c.args.lease.id = c.parts_of-id.ensures.id in
+    let f = put_facts c.self.inside.problem c.self.inside.settings c.self.inside.journal.entries c.args.self.now c.args.seat c.args.lease c.args.outcome c.parts_of-id.result.0 _
+    c.self.view_is lid c.in-Split.is c.requires in
+    let o = out_counted _ _ _ _ _ _ _ _ c.parts_of-id.result.0 c.args.seat c.self.inside.outs c.self.invariant.follows f.may.is_out c.self.invariant.outs_is in
+    let room = c.self.invariant.candidate_room in
+    let longer = ap length c.push_reserved.ensures.items ∙ length-append c.self.inside.candidates.items (c.parts_of-id.result.0 ∷ []) in
+    let wide = c.push_reserved.ensures.capacity in
+    omega (arith, o, room, longer, wide)

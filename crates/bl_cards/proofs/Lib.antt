@@ -1,0 +1,15 @@
+pub mod Differing
+pub mod Places
+pub mod RowLines
+pub mod Grids
+pub mod GivenLines
+pub mod Walks
+pub mod Faults
+pub mod Coherent
+pub mod NumbersRead
+pub mod CoherentColumns
+pub mod CoherentLines
+pub mod SectionLaw
+pub mod ColumnLaw
+pub mod SetLaw
+pub mod FirstFault

@@ -1,0 +1,9 @@
+pub mod Said
+pub mod Lines
+pub mod Reading
+pub mod Views
+pub mod Coherence
+pub mod Sections
+pub mod Named
+pub mod Sets
+pub mod Laws

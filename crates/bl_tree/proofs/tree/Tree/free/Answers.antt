@@ -1,0 +1,143 @@
+use Rattle.std.proofs.Common.{◌≡◌, ◌<◌, ◌++◌, ◌∷◌, [], ℕ, Some, None, List, length, ap, sym, ◌∙◌, subst, refl, arith, rules}
+use Rattle.std.specs.Prelude.{reverse, vec_capacity}
+use Rattle.bl_journal.specs.declared.entry.Entry.{Entry}
+use Rattle.bl_journal.specs.declared.entry.Entry.TheVariants.{Free}
+use Rattle.bl_journal.specs.Births.{nodes_of}
+use Rattle.bl_journal.specs.Freeing.{first_freeable, HasNothingToFree, IsFreeChain, standing_of}
+use Rattle.bl_tree.specs.Views.{TreeView, past_of, extended}
+use Rattle.bl_tree.specs.Records.{depth_if}
+use Rattle.bl_tree.proofs.Searches.{slice_get-is}
+use Rattle.bl_tree.proofs.Sets.{reverse-push}
+use Rattle.bl_tree.proofs.Candidates.{linked}
+use Rattle.bl_tree.proofs.Trees.{tree_room, tree_idle, tree_freed, freed_tree, first_holds, nothing_to_free}
+use Rattle.bl_tree.proofs.tree.Tree.free.Goals as goal
+
+pub invariant_of-self : goal.invariant_of-self
+invariant_of-self c =
+    let u : TreeView = record { problem = c.self.inside.problem; settings = c.self.inside.settings; history = c.self.inside.journal.entries } in
+    let none : first_freeable u.problem u.settings (past_of u) ≡ None =
+    ap (λ (t : TreeView). first_freeable t.problem t.settings (past_of t)) c.self.view_is ∙ (sym c.first_to_go.ensures ∙ c.in_default.is) in
+    let nothing = nothing_to_free u.problem u.settings (past_of u) none in
+    tree_idle _ _ _ _ _ _ _ _ _ _ _ _ _ _ _ _ _ c.self.invariant nothing c.clear.ensures.items c.clear.ensures.capacity
+
+pub returns-in_default-clause-freed : goal.returns-in_default-clause-freed
+returns-in_default-clause-freed c =
+    let u : TreeView = record { problem = c.self.inside.problem; settings = c.self.inside.settings; history = c.self.inside.journal.entries } in
+    let none : first_freeable u.problem u.settings (past_of u) ≡ None =
+    ap (λ (t : TreeView). first_freeable t.problem t.settings (past_of t)) c.self.view_is ∙ (sym c.first_to_go.ensures ∙ c.in_default.is) in
+    let nothing = nothing_to_free u.problem u.settings (past_of u) none in
+    (subst (λ (t : TreeView). HasNothingToFree t.problem t.settings (past_of t)) c.self.view_is nothing, c.self.view_is)
+
+pub invariant_of-self-in_err-reserve : goal.invariant_of-self-in_err-reserve
+invariant_of-self-in_err-reserve c =
+    tree_room _ _ _ _ _ _ _ _ _ _ _ _ _ _ _ _ _ _ _ _ _ _ _ c.self.invariant c.reserve.ensures.entries refl refl refl c.reserve.ensures.kept (omega arith) (omega arith) (omega arith)
+
+pub index-requires : goal.index-requires
+index-requires c =
+    let u : TreeView = record { problem = c.self.inside.problem; settings = c.self.inside.settings; history = c.self.inside.journal.entries } in
+    let first : first_freeable u.problem u.settings (past_of u) ≡ Some c.in-Some.first =
+    ap (λ (t : TreeView). first_freeable t.problem t.settings (past_of t)) c.self.view_is ∙ (sym c.first_to_go.ensures ∙ c.in-Some.is) in
+    let k = c.self.invariant.follows in
+    let holds = first_holds u.problem u.settings (past_of u) c.in-Some.first first in
+    let born : c.in-Some.first < length (nodes_of u.problem (past_of u)) = holds.0 in
+    let count : length c.self.inside.records.items ≡ length (nodes_of u.problem (past_of u)) = k.records.count in
+    let len : length c.self.inside.records.items ≡ c.self.inside.records.len = search rules in
+    omega (arith, born, count, len)
+
+pub invariant_of-self-in_err-ids : goal.invariant_of-self-in_err-ids
+invariant_of-self-in_err-ids c =
+    tree_room _ _ _ _ _ _ _ _ _ _ _ _ _ _ _ _ _ _ _ _ _ _ _ c.self.invariant c.reserve.ensures.entries refl refl refl c.reserve.ensures.kept (omega arith) (omega arith) (omega arith)
+
+pub invariant_of-self-in_err-chain : goal.invariant_of-self-in_err-chain
+invariant_of-self-in_err-chain c =
+    tree_room _ _ _ _ _ _ _ _ _ _ _ _ _ _ _ _ _ _ _ _ _ _ _ c.self.invariant c.reserve.ensures.entries refl refl refl c.reserve.ensures.kept (omega arith) (omega arith) (omega arith)
+
+pub free_up-requires-clause-there : goal.free_up-requires-clause-there
+free_up-requires-clause-there c =
+    let u : TreeView = record { problem = c.self.inside.problem; settings = c.self.inside.settings; history = c.self.inside.journal.entries } in
+    let first : first_freeable u.problem u.settings (past_of u) ≡ Some c.in-Some.first =
+    ap (λ (t : TreeView). first_freeable t.problem t.settings (past_of t)) c.self.view_is ∙ (sym c.first_to_go.ensures ∙ c.in-Some.is) in
+    let k = c.self.invariant.follows in
+    let holds = first_holds u.problem u.settings (past_of u) c.in-Some.first first in
+    let born : c.in-Some.first < length (nodes_of u.problem (past_of u)) = holds.0 in
+    let count : length c.self.inside.records.items ≡ length (nodes_of u.problem (past_of u)) = k.records.count in
+    omega (arith, born, count)
+
+pub free_up-requires-clause-linked : goal.free_up-requires-clause-linked
+free_up-requires-clause-linked c =
+    let k = c.self.invariant.follows in
+    linked c.self.inside.problem c.self.inside.settings (reverse c.self.inside.journal.entries) c.self.inside.records.items k.legal k.records k.storage
+
+pub free_up-requires-clause-room : goal.free_up-requires-clause-room
+free_up-requires-clause-room c =
+    let u : TreeView = record { problem = c.self.inside.problem; settings = c.self.inside.settings; history = c.self.inside.journal.entries } in
+    let first : first_freeable u.problem u.settings (past_of u) ≡ Some c.in-Some.first =
+    ap (λ (t : TreeView). first_freeable t.problem t.settings (past_of t)) c.self.view_is ∙ (sym c.first_to_go.ensures ∙ c.in-Some.is) in
+    let k = c.self.invariant.follows in
+    let holds = first_holds u.problem u.settings (past_of u) c.in-Some.first first in
+    let born : c.in-Some.first < length (nodes_of u.problem (past_of u)) = holds.0 in
+    let count : length c.self.inside.records.items ≡ length (nodes_of u.problem (past_of u)) = k.records.count in
+    let e = slice_get-is c.self.inside.records.items c.in-Some.first c.index.result.now (omega (arith, born, count)) c.index.ensures in
+    let deep = ap depth_if e in
+    let wide = c.in_ok-ids.ensures.capacity in
+    omega (arith, deep, wide)
+
+pub copy_into-requires-clause-room : goal.copy_into-requires-clause-room
+copy_into-requires-clause-room c =
+    let u : TreeView = record { problem = c.self.inside.problem; settings = c.self.inside.settings; history = c.self.inside.journal.entries } in
+    let first : first_freeable u.problem u.settings (past_of u) ≡ Some c.in-Some.first =
+    ap (λ (t : TreeView). first_freeable t.problem t.settings (past_of t)) c.self.view_is ∙ (sym c.first_to_go.ensures ∙ c.in-Some.is) in
+    let k = c.self.invariant.follows in
+    let holds = first_holds u.problem u.settings (past_of u) c.in-Some.first first in
+    let born : c.in-Some.first < length (nodes_of u.problem (past_of u)) = holds.0 in
+    let count : length c.self.inside.records.items ≡ length (nodes_of u.problem (past_of u)) = k.records.count in
+    let e = slice_get-is c.self.inside.records.items c.in-Some.first c.index.result.now (omega (arith, born, count)) c.index.ensures in
+    let deep = ap depth_if e in
+    let wide = c.in_ok-chain.ensures.capacity in
+    let few = c.free_up.ensures.few in
+    let same = ap length c.shrink_to_fit.ensures.items in
+    let same2 = ap length c.deref.ensures.value in
+    omega (arith, deep, wide, few, same, same2)
+
+pub invariant_of-self-2 : goal.invariant_of-self-2
+invariant_of-self-2 c =
+    let u : TreeView = record { problem = c.self.inside.problem; settings = c.self.inside.settings; history = c.self.inside.journal.entries } in
+    let first : first_freeable u.problem u.settings (past_of u) ≡ Some c.in-Some.first =
+    ap (λ (t : TreeView). first_freeable t.problem t.settings (past_of t)) c.self.view_is ∙ (sym c.first_to_go.ensures ∙ c.in-Some.is) in
+    let k = c.self.invariant.follows in
+    let holds = first_holds u.problem u.settings (past_of u) c.in-Some.first first in
+    let born : c.in-Some.first < length (nodes_of u.problem (past_of u)) = holds.0 in
+    let count : length c.self.inside.records.items ≡ length (nodes_of u.problem (past_of u)) = k.records.count in
+    let ids = c.from_vec-ids.ensures ∙ c.shrink_to_fit.ensures.items in
+    let h = c.push_reserved.ensures.entries ∙ (ap (λ (l : List ℕ). c.reserve.new.self.entries ++ Free c.args.seat l ∷ []) ids
+    ∙ ap (λ (es : List Entry). es ++ Free c.args.seat c.free_up.new.ids.items ∷ []) c.reserve.ensures.entries) in
+    let asked = c.in_ok-reserve.ensures.room in
+    let room = c.push_reserved.ensures.room in
+    tree_freed _ _ _ _ _ _ _ _ _ _ _ _ _ _ _ _ _ _ _ _ _ c.args.seat c.in-Some.first c.free_up.new.ids.items c.self.invariant first c.free_up.ensures.freed h (omega (arith, asked, room)) c.free_up.ensures.capacity
+    c.leave.ensures.items c.leave.ensures.shorter c.leave.ensures.capacity
+
+pub returns-clause-freed : goal.returns-clause-freed
+returns-clause-freed c =
+    let u : TreeView = record { problem = c.self.inside.problem; settings = c.self.inside.settings; history = c.self.inside.journal.entries } in
+    let first : first_freeable u.problem u.settings (past_of u) ≡ Some c.in-Some.first =
+    ap (λ (t : TreeView). first_freeable t.problem t.settings (past_of t)) c.self.view_is ∙ (sym c.first_to_go.ensures ∙ c.in-Some.is) in
+    let k = c.self.invariant.follows in
+    let holds = first_holds u.problem u.settings (past_of u) c.in-Some.first first in
+    let born : c.in-Some.first < length (nodes_of u.problem (past_of u)) = holds.0 in
+    let count : length c.self.inside.records.items ≡ length (nodes_of u.problem (past_of u)) = k.records.count in
+    let ids = c.from_vec-ids.ensures ∙ c.shrink_to_fit.ensures.items in
+    let h = c.push_reserved.ensures.entries ∙ (ap (λ (l : List ℕ). c.reserve.new.self.entries ++ Free c.args.seat l ∷ []) ids
+    ∙ ap (λ (es : List Entry). es ++ Free c.args.seat c.free_up.new.ids.items ∷ []) c.reserve.ensures.entries) in
+    let asked = c.in_ok-reserve.ensures.room in
+    let room = c.push_reserved.ensures.room in
+    let outs = c.self.invariant.outs_is in
+    let g = freed_tree u.problem u.settings (past_of u) c.self.inside.journal.room c.push_reserved.new.self.room (vec_capacity c.self.inside.records) c.self.inside.records.items c.self.inside.used c.self.inside.best
+    c.self.inside.candidates.items c.self.inside.fell c.args.seat c.in-Some.first c.free_up.new.ids.items c.free_up.new.records.items k c.self.invariant.covered first c.free_up.ensures.freed (omega (arith, asked, room, outs)) in
+    let answer : c.from_vec.result ≡ c.free_up.new.ids.items = c.from_vec.ensures ∙ (c.copy_into.ensures ∙ (c.deref.ensures.value ∙ c.shrink_to_fit.ensures.items)) in
+    let turned : reverse c.push_reserved.new.self.entries ≡ Free c.args.seat c.free_up.new.ids.items ∷ past_of u = ap reverse h ∙ reverse-push c.self.inside.journal.entries (Free c.args.seat c.free_up.new.ids.items) in (
+      subst (λ (t : TreeView). IsFreeChain t.problem t.settings (past_of t) c.from_vec.result) c.self.view_is (subst (λ (l : List ℕ). IsFreeChain u.problem u.settings (past_of u) l) (sym answer) g.chain),
+      ap (λ (es : List Entry). record { problem = u.problem; settings = u.settings; history = es }) h
+          ∙ (ap (λ (l : List ℕ). extended u (Free c.args.seat l)) (sym answer) ∙ ap (λ (t : TreeView). extended t (Free c.args.seat c.from_vec.result)) c.self.view_is),
+      subst (λ (t : TreeView). standing_of u.problem (reverse c.push_reserved.new.self.entries) < standing_of t.problem (past_of t)) c.self.view_is
+          (subst (λ (past : List Entry). standing_of u.problem past < standing_of u.problem (past_of u)) (sym turned) g.fewer),
+    )

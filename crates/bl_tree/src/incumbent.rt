@@ -1,0 +1,114 @@
+//! The best point that was found, and what is known of it.
+ghost use Rattle.std.specs.Prelude.{◌≡◌, IfSome, slice_get};
+ghost use Rattle.bl_problem.specs.Points.{InBox, own_lows, own_highs, value_of};
+ghost use Rattle.bl_journal.specs.Results.{lesser_of};
+ghost use Rattle.bl_tree.specs.Records.{best_value_with, improves, place_with, found_in, found_with};
+ghost use Rattle.bl_tree.specs.Answers.{found_if, verdict_of, verdict_from};
+
+use crate::answer::{Answer, Best};
+use bl_journal::Entry;
+use bl_mods::Items;
+use bl_problem::Problem;
+
+/// Whether a found point is better than the best one.
+pub fn is_better(problem: &Problem, best: Option<i128>, found: &Option<Items<i64>>) -> bool
+    requires { IfSome found.now (λ x. InBox (own_lows problem.now) (own_highs problem.now) x) }
+    ensures { result ≡ improves problem.now best found.now }
+{
+    match found {
+        None => false,
+        Some(point) => match best {
+            None => true,
+            Some(value) => value_within(problem, point.as_slice()) < value,
+        },
+    }
+}
+
+/// Where the entry stands that found the best point, after a put at the place `now`.
+pub fn place_after(
+    problem: &Problem,
+    best: Option<i128>,
+    found: &Option<Items<i64>>,
+    before: usize,
+    now: usize,
+) -> usize
+    requires { IfSome found.now (λ x. InBox (own_lows problem.now) (own_highs problem.now) x) }
+    ensures { result ≡ place_with problem.now best found.now before now }
+{
+    if is_better(problem, best, found) {
+        now
+    } else {
+        before
+    }
+}
+
+// The value of a point within the problem's bounds.
+fn value_within(problem: &Problem, point: &[i64]) -> i128
+    requires { InBox (own_lows problem.now) (own_highs problem.now) point.now }
+    ensures { result ≡ value_of problem.now point.now }
+{
+    let _columns = problem.columns();
+    problem.value(point)
+}
+
+/// The best value after a point was found, or none was.
+pub fn best_after(problem: &Problem, best: Option<i128>, found: &Option<Items<i64>>) -> Option<i128>
+    requires { IfSome found.now (λ x. InBox (own_lows problem.now) (own_highs problem.now) x) }
+    ensures { result ≡ best_value_with problem.now best found.now }
+{
+    match found {
+        None => best,
+        Some(point) => {
+            let value = value_within(problem, point.as_slice());
+            match best {
+                None => Some(value),
+                Some(old) => { if value < old { Some(value) } else { Some(old) } }
+            }
+        }
+    }
+}
+
+/// The point that the entry at a place found, with its value.
+pub fn found_at(entries: &[Entry], place: usize, value: i128) -> Option<Best<'_>>
+    ensures { found_if result ≡ found_with value (found_in (slice_get entries.now place)) }
+{
+    if place >= entries.len() {
+        return None;
+    }
+    match &entries[place] {
+        Entry::Put {
+            found: Some(point),
+            ..
+        } => Some(Best {
+            value,
+            point: point.as_slice(),
+        }),
+        _ => None,
+    }
+}
+
+// The lesser of a number and the best value.
+fn lesser_value(low: i128, best: &Option<Best<'_>>) -> i128
+    ensures { result ≡ lesser_of low (found_if best.now) }
+{
+    match best {
+        None => low,
+        Some(best) => best.value.min(low),
+    }
+}
+
+/// The answer, from the best point and the least low number of the live nodes.
+pub fn answer_from(best: Option<Best<'_>>, least: Option<i128>) -> Answer<'_>
+    ensures { verdict_of result ≡ verdict_from (found_if best.entry) least }
+{
+    match least {
+        None => match best {
+            Some(Best { value, point }) => Answer::Optimal { value, point },
+            None => Answer::Infeasible,
+        },
+        Some(low) => Answer::Bounded {
+            bound: lesser_value(low, &best),
+            best,
+        },
+    }
+}
