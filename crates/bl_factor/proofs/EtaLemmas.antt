@@ -6,6 +6,7 @@ use Rattle.std.proofs.lemmas.Bool.{eq-eqb}
 use Rattle.std.proofs.lemmas.Bool.Decides.{eqb_tells}
 use Rattle.bl_fixed.specs.declared.Fixed.{Fixed}
 use Rattle.bl_fixed.specs.Fixed.{saturated_quotient}
+use Rattle.bl_factor.specs.Others.{listed}
 use Rattle.bl_factor.specs.declared.sparse.Entry.{Entry}
 use Rattle.bl_factor.specs.declared.eta.Eta.{Eta}
 use Rattle.bl_factor.specs.Vectors.{nought, is_nought, at, column_of, IsPivot}
@@ -19,7 +20,7 @@ use Rattle.bl_factor.proofs.SparseLemmas.{less_multiple-nought, taken_off-entrie
 pub at-place : (n : ℕ) (eta : Eta) → eta.place < n → at (elimination_of n eta).column eta.place ≡ eta.pivot
 at-place n eta h =
     at-column_of n (eta_entry eta) eta.place h
-    ∙ ap (λ (b : Bool). if b then eta.pivot else value_at eta.others.items eta.place) (eq-eqb eta.place eta.place refl)
+    ∙ ap (λ (b : Bool). if b then eta.pivot else value_at (listed eta.others) eta.place) (eq-eqb eta.place eta.place refl)
 
 pub cleared-nought : (e : Elimination) (ys : List Fixed) → is_nought (at ys e.place) ≡ true → cleared e ys ≡ ys
 unfolding cleared
@@ -34,25 +35,25 @@ cleared-filled e ys h = ap (λ (b : Bool). if b then ys
 
 -- to write the quotient and take off the multiples clears the column
 pub cleared-eta : (eta : Eta) (ys : List Fixed) (q : Fixed) → IsEta (length ys) eta → is_nought (at ys eta.place) ≡ false → q ≡ saturated_quotient (at ys eta.place) eta.pivot →
-    column_of (length ys) (λ i. less_multiple (at (set ys eta.place q) i) (value_at eta.others.items i) q) ≡ cleared (elimination_of (length ys) eta) ys
+    column_of (length ys) (λ i. less_multiple (at (set ys eta.place q) i) (value_at (listed eta.others) i) q) ≡ cleared (elimination_of (length ys) eta) ys
 cleared-eta eta ys q w f d =
     let n = length ys in
     let e = elimination_of n eta in
     let p = at-place n eta w.place_in in
     let r : saturated_quotient (at ys e.place) (at e.column e.place) ≡ q = ap (saturated_quotient (at ys eta.place)) p ∙ sym d in
-    same_column_of n (λ i. less_multiple (at (set ys eta.place q) i) (value_at eta.others.items i) q) (cleared_entry e ys q)
+    same_column_of n (λ i. less_multiple (at (set ys eta.place q) i) (value_at (listed eta.others) i) q) (cleared_entry e ys q)
     (λ i l.
     let u = at-set ys eta.place q i w.place_in in
     elim (eqb_tells i eta.place) [
       | inl t ↦
-          let v : value_at eta.others.items i ≡ nought = ap (value_at eta.others.items) t.1 ∙ w.apart in
-          less_multiple-nought (at (set ys eta.place q) i) (value_at eta.others.items i) q v
+          let v : value_at (listed eta.others) i ≡ nought = ap (value_at (listed eta.others)) t.1 ∙ w.apart in
+          less_multiple-nought (at (set ys eta.place q) i) (value_at (listed eta.others) i) q v
           ∙ u ∙ ap (λ (b : Bool). if b then q else at ys i) t.0
           ∙ sym (ap (λ (b : Bool). if b then q else less_multiple (at ys i) (at e.column i) q) t.0)
       | inr t ↦
-          let x : at e.column i ≡ value_at eta.others.items i =
-          at-column_of n (eta_entry eta) i l ∙ ap (λ (b : Bool). if b then eta.pivot else value_at eta.others.items i) t.0 in
-          ap (λ (a : Fixed). less_multiple a (value_at eta.others.items i) q) (u ∙ ap (λ (b : Bool). if b then q else at ys i) t.0)
+          let x : at e.column i ≡ value_at (listed eta.others) i =
+          at-column_of n (eta_entry eta) i l ∙ ap (λ (b : Bool). if b then eta.pivot else value_at (listed eta.others) i) t.0 in
+          ap (λ (a : Fixed). less_multiple a (value_at (listed eta.others) i) q) (u ∙ ap (λ (b : Bool). if b then q else at ys i) t.0)
           ∙ ap (λ (a : Fixed). less_multiple (at ys i) a q) (sym x)
           ∙ sym (ap (λ (b : Bool). if b then q else less_multiple (at ys i) (at e.column i) q) t.0)
     ])
@@ -60,25 +61,25 @@ cleared-eta eta ys q w f d =
     ∙ sym (cleared-filled e ys f)
 
 -- the entries beside the pivot
-others-eta : (n : ℕ) (eta : Eta) → IsEta n eta → (i : ℕ) → i < n → others_of (elimination_of n eta) i ≡ value_at eta.others.items i
+others-eta : (n : ℕ) (eta : Eta) → IsEta n eta → (i : ℕ) → i < n → others_of (elimination_of n eta) i ≡ value_at (listed eta.others) i
 others-eta n eta w i l = elim (eqb_tells i eta.place) [
   | inl t ↦
       ap (λ (b : Bool). if b then nought else at (elimination_of n eta).column i) t.0
-      ∙ sym w.apart ∙ ap (value_at eta.others.items) (sym t.1)
+      ∙ sym w.apart ∙ ap (value_at (listed eta.others)) (sym t.1)
   | inr t ↦
       ap (λ (b : Bool). if b then nought else at (elimination_of n eta).column i) t.0
       ∙ at-column_of n (eta_entry eta) i l
-      ∙ ap (λ (b : Bool). if b then eta.pivot else value_at eta.others.items i) t.0
+      ∙ ap (λ (b : Bool). if b then eta.pivot else value_at (listed eta.others) i) t.0
 ]
 
-pub transposed-eta : (eta : Eta) (xs : List Fixed) (es : List Entry) (rest : Fixed) → IsEta (length xs) eta → es ≡ eta.others.items →
+pub transposed-eta : (eta : Eta) (xs : List Fixed) (es : List Entry) (rest : Fixed) → IsEta (length xs) eta → es ≡ (listed eta.others) →
     rest ≡ taken_off (value_at es) xs 0 (length xs) (at xs eta.place) →
     saturated_quotient rest eta.pivot ≡ transposed_entry (elimination_of (length xs) eta) xs
 transposed-eta eta xs es rest w s d =
     let n = length xs in
     let e = elimination_of n eta in
-    let a = taken_off-entries 0 n n eta.others.items (value_at eta.others.items) xs (at xs eta.place) (omega arith) w.sparse (λ i b c. refl) in
-    let b = taken_off-entries 0 n n eta.others.items (others_of e) xs (at xs eta.place) (omega arith) w.sparse (λ i b c. others-eta n eta w i c) in
+    let a = taken_off-entries 0 n n (listed eta.others) (value_at (listed eta.others)) xs (at xs eta.place) (omega arith) w.sparse (λ i b c. refl) in
+    let b = taken_off-entries 0 n n (listed eta.others) (others_of e) xs (at xs eta.place) (omega arith) w.sparse (λ i b c. others-eta n eta w i c) in
     let r : rest ≡ taken_off (others_of e) xs 0 n (at xs eta.place) =
     d ∙ ap (λ (es : List Entry). taken_off (value_at es) xs 0 n (at xs eta.place)) s ∙ a ∙ sym b in
     ap (λ (z : Fixed). saturated_quotient z eta.pivot) r
@@ -94,18 +95,18 @@ unfolding eliminated_transposed
 eliminated_transposed-swap e xs z h = ap (λ (y : Fixed). swap (set xs e.place y) e.place e.row) h
 
 -- an eta of a column's pivot and its other entries has that column
-pub column-eta : (column : List Fixed) (eta : Eta) → eta.pivot ≡ at column eta.place → AreEntries column eta.place eta.others.items → column_of (length column) (eta_entry eta) ≡ column
+pub column-eta : (column : List Fixed) (eta : Eta) → eta.pivot ≡ at column eta.place → AreEntries column eta.place (listed eta.others) → column_of (length column) (eta_entry eta) ≡ column
 column-eta column eta p a =
     same_column_of (length column) (eta_entry eta) (at column) (λ i l. elim (eqb_tells i eta.place) [
       | inl t ↦
-          ap (λ (b : Bool). if b then eta.pivot else value_at eta.others.items i) t.0 ∙ p ∙ ap (at column) (sym t.1)
+          ap (λ (b : Bool). if b then eta.pivot else value_at (listed eta.others) i) t.0 ∙ p ∙ ap (at column) (sym t.1)
       | inr t ↦
-          ap (λ (b : Bool). if b then eta.pivot else value_at eta.others.items i) t.0 ∙ a.values i l
+          ap (λ (b : Bool). if b then eta.pivot else value_at (listed eta.others) i) t.0 ∙ a.values i l
           ∙ ap (λ (b : Bool). if b then nought else at column i) t.0
     ]) ∙ column_of-at column
 
 -- an eta of a column's large enough pivot and its other entries is one
-pub IsEta-entries : (column : List Fixed) (eta : Eta) → eta.place < length column → eta.row < length column → IsPivot eta.pivot → AreEntries column eta.place eta.others.items → IsEta (length column) eta
+pub IsEta-entries : (column : List Fixed) (eta : Eta) → eta.place < length column → eta.row < length column → IsPivot eta.pivot → AreEntries column eta.place (listed eta.others) → IsEta (length column) eta
 IsEta-entries column eta h r p a = record {
   place_in = h;
   row_in = r;

@@ -8,6 +8,7 @@ use Rattle.std.proofs.lemmas.List.Elements.{All-from_get_or, All-push, All-same}
 use Rattle.std.proofs.lemmas.Bool.{cases_eq}
 use Rattle.std.proofs.lemmas.Bool.Decides.{nat_tests}
 use Rattle.bl_fixed.specs.declared.Fixed.{Fixed}
+use Rattle.bl_factor.specs.Others.{listed}
 use Rattle.bl_factor.specs.declared.sparse.Entry.{Entry}
 use Rattle.bl_factor.specs.declared.eta.Eta.{Eta}
 use Rattle.bl_factor.specs.declared.anew.Reduction.{Reduction}
@@ -50,14 +51,14 @@ swap-moderate xs i j h k m =
     ])
 
 -- a factor with no other entries
-none_beside : (n : ℕ) (u : Eta) (ys : List Fixed) (is_open : List Bool) (place : ℕ) → elimination_of n u ≡ upper_step ys is_open place → u.others.items ≡ [] →
+none_beside : (n : ℕ) (u : Eta) (ys : List Fixed) (is_open : List Bool) (place : ℕ) → elimination_of n u ≡ upper_step ys is_open place → (listed u.others) ≡ [] →
     (i : ℕ) → i < n → i ≢ place → at (upper_column ys is_open place) i ≡ nought
 none_beside n u ys is_open place e z i l ne =
     let p : u.place ≡ place = ap (λ (s : Elimination). s.place) e in
     let t : nat_eq i u.place ≡ false = grind (arith, nat_tests) in
     sym (ap (λ (s : Elimination). at s.column i) e)
     ∙ at-column_of n (eta_entry u) i l
-    ∙ ap (λ (b : Bool). if b then u.pivot else value_at u.others.items i) t
+    ∙ ap (λ (b : Bool). if b then u.pivot else value_at (listed u.others) i) t
     ∙ ap (λ (es : List Entry). value_at es i) z
 
 pub Reduces-close : (columns : List (Vec Entry)) (r s : Reduction) (place row : ℕ) (image ys : List Fixed) (l u : Eta) →
@@ -66,9 +67,9 @@ pub Reduces-close : (columns : List (Vec Entry)) (r s : Reduction) (place row : 
     CanPivot image r.is_open.items row → IsModerate image → ys ≡ swap image place row →
     IsEta (length columns) l → elimination_of (length columns) l ≡ lower_step ys r.is_open.items place row →
     IsEta (length columns) u → elimination_of (length columns) u ≡ upper_step ys r.is_open.items place →
-    s.is_open.items ≡ set r.is_open.items place false → length s.counts.items ≡ length columns →
+    s.is_open.items ≡ set r.is_open.items place false → length s.order.ranks.items ≡ length columns →
     s.lower.items ≡ r.lower.items ++ l ∷ [] →
-    (s.upper.items ≡ r.upper.items ++ u ∷ []) ⊎ ((s.upper.items ≡ r.upper.items) × (u.others.items ≡ [])) →
+    (s.upper.items ≡ r.upper.items ++ u ∷ []) ⊎ ((s.upper.items ≡ r.upper.items) × ((listed u.others) ≡ [])) →
     Reduces columns s
 Reduces-close columns r s place row image ys l u w h o i p m y li le ui ue so sc sl su =
     let n = length columns in
@@ -108,7 +109,7 @@ Reduces-close columns r s place row image ys l u w h o i p m y li le ui ue so sc
     ap (eliminations n) sl ∙ map_push (elimination_of n) r.lower.items l ∙ ap (λ (v : Elimination). lower ++ v ∷ []) le in
     record {
       flagged = ap length so ∙ length-set is_open place false ∙ w.flagged;
-      counted = sc;
+      ranked = sc;
       lower = All-same (IsEta n) s.lower.items (r.lower.items ++ l ∷ []) sl (All-push (IsEta n) r.lower.items l w.lower li);
       upper = elim su [
         | inl a ↦ All-same (IsEta n) s.upper.items (r.upper.items ++ u ∷ []) a (All-push (IsEta n) r.upper.items u w.upper ui)

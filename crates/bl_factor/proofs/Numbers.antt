@@ -57,7 +57,7 @@ fits-times_one (negsuc n) h =
     ap (λ (m : ℕ). fits_i128 (neg_ℤ (pos m))) (after_times n)
     ∙ lt-ltb (n * 2 ^ 40 + (2 ^ 40 - 1)) (2 ^ 127) (omega arith)
 
-if-true : {A : Type 0} (t : Bool) (x y : A) → t ≡ true → (if t then x else y) ≡ x
+pub if-true : {A : Type 0} (t : Bool) (x y : A) → t ≡ true → (if t then x else y) ≡ x
 if-true t x y h = ap (λ (b : Bool). if b then x else y) h
 
 pub quotient-itself : (w : Fixed) → IsPivot w → unsigned_abs w.raw < 2 ^ 87 → saturated_quotient w w ≡ unity

@@ -10,7 +10,7 @@ use Rattle.bl_factor.specs.Vectors.{nought, is_nought, at}
 use Rattle.std.specs.List.{fold}
 use Rattle.bl_fixed.specs.Fixed.{saturated_difference, saturated_product}
 use Rattle.bl_factor.specs.Elimination.{less_multiple, taken_off}
-use Rattle.bl_factor.specs.Sparse.{IsSparse, value_at}
+use Rattle.bl_factor.specs.Sparse.{IsSparse, value_at, AreEntries}
 
 -- outside of the entries' range the column is 0
 pub value_at-below : (low n : ℕ) (es : List Entry) (i : ℕ) → IsSparse low n es → i < low → value_at es i ≡ nought
@@ -75,10 +75,10 @@ pub less_multiple-filled : (x c q : Fixed) → is_nought c ≡ false → less_mu
 unfolding less_multiple
 less_multiple-filled x c q e = ap (λ (t : Bool). if t then x else saturated_difference x (saturated_product c q)) e
 
-value_at-first : (x : Entry) (es : List Entry) (i : ℕ) → x.place ≡ i → value_at (x ∷ es) i ≡ x.value
+pub value_at-first : (x : Entry) (es : List Entry) (i : ℕ) → x.place ≡ i → value_at (x ∷ es) i ≡ x.value
 value_at-first x es i p = let t = eq-eqb x.place i p in ap (λ (b : Bool). if b then x.value else value_at es i) t
 
-value_at-later : (x : Entry) (es : List Entry) (i : ℕ) → x.place < i → value_at (x ∷ es) i ≡ value_at es i
+pub value_at-later : (x : Entry) (es : List Entry) (i : ℕ) → x.place < i → value_at (x ∷ es) i ≡ value_at es i
 value_at-later x es i p = grind (arith, nat_tests)
 
 pub taken_off-entries : (low k n : ℕ) (es : List Entry) (c : ℕ → Fixed) (xs : List Fixed) (rest : Fixed) → n ≡ low + k → IsSparse low n es → ((i : ℕ) → low ≤ i → i < n → c i ≡ value_at es i) → taken_off c xs low k rest ≡ fold (less_entry xs) rest es
@@ -113,7 +113,7 @@ abbrev pub no_entry : Entry
 no_entry = record { place = 0; value = nought }
 
 -- the entries so far and the next one
-value_at-take_more : (low n : ℕ) (es : List Entry) (i k : ℕ) → IsSparse low n es → i < length es →
+pub value_at-take_more : (low n : ℕ) (es : List Entry) (i k : ℕ) → IsSparse low n es → i < length es →
     value_at (take (i + 1) es) k ≡ (if nat_eq (get_or es i no_entry).place k then (get_or es i no_entry).value else value_at (take i es) k)
 value_at-take_more low n es i k s h =
     let e = get_or es i no_entry in
@@ -228,3 +228,95 @@ IsPart-nought column except i es e p =
     same : (b : Bool) → (if b then nought else nought) ≡ nought
     same true = refl
     same false = refl
+
+-- ---- some of the entries
+last_below : (low m : ℕ) (es : List Entry) (e : Entry) → IsSparse low m (es ++ e ∷ []) → (e.place < m) × IsSparse low m es
+last_below low m [] e s = (s.1, tt)
+last_below low m (x ∷ es) e s = let later = last_below (suc x.place) m es e s.3 in let rest : IsSparse low m (x ∷ es) = (s.0, s.1, s.2, later.1) in (later.0, rest)
+
+-- the number that is wanted of a column at a place
+abbrev pub but_for : List Fixed → ℕ → ℕ → Fixed
+but_for column except i = if nat_eq i except then nought else at column i
+
+-- of the given entries' places, those where the column has a number, but for the one at `except`
+pub record Picks (column : List Fixed) (except : ℕ) (es part : List Entry) : Type 0 where
+  pub sparse : (m : ℕ) → IsSparse 0 m es → IsSparse 0 m part
+  pub values : (i : ℕ) → i < length column → value_at part i ≡ (if is_nought (value_at es i) then nought else but_for column except i)
+
+nought_either : (b : Bool) → (if b then nought else nought) ≡ nought
+nought_either true = refl
+nought_either false = refl
+
+pub Picks-none : (column : List Fixed) (except : ℕ) → Picks column except [] []
+Picks-none column except = record { sparse = λ m s. tt; values = λ i l. refl }
+
+pub Picks-push : (column : List Fixed) (except : ℕ) (es part : List Entry) (e : Entry) → IsSparse 0 e.place es → is_nought e.value ≡ false →
+    is_nought (at column e.place) ≡ false → e.place ≢ except → Picks column except es part →
+    Picks column except (es ++ e ∷ []) (part ++ record { place = e.place; value = at column e.place } ∷ [])
+Picks-push column except es part e s f g ne p =
+    let n : Entry = record { place = e.place; value = at column e.place } in
+    record {
+      sparse = λ m t. let l = last_below 0 m es e t in IsSparse-push 0 e.place m part n (p.sparse e.place s) (omega arith) (omega arith) l.0 g;
+      values = λ i l.
+          let a = value_at-push 0 e.place part n i (p.sparse e.place s) (omega arith) in
+          let b = value_at-push 0 e.place es e i s (omega arith) in
+          elim (eqb_tells e.place i) [
+            | inl q ↦
+                let t : nat_eq i except ≡ false = grind (arith, nat_tests, q.1, ne) in
+                let v = b ∙ ap (λ (y : Bool). if y then e.value else value_at es i) q.0 in
+                a ∙ ap (λ (y : Bool). if y then at column e.place else value_at part i) q.0 ∙ ap (at column) q.1
+                ∙ sym (ap (λ (y : Fixed). if is_nought y then nought else but_for column except i) v
+                ∙ ap (λ (y : Bool). if y then nought else but_for column except i) f
+                ∙ ap (λ (y : Bool). if y then nought else at column i) t)
+            | inr q ↦
+                let v = b ∙ ap (λ (y : Bool). if y then e.value else value_at es i) q.0 in
+                a ∙ ap (λ (y : Bool). if y then at column e.place else value_at part i) q.0 ∙ p.values i l
+                ∙ sym (ap (λ (y : Fixed). if is_nought y then nought else but_for column except i) v)
+          ];
+    }
+
+pub Picks-same : (column : List Fixed) (except : ℕ) (es part : List Entry) (e : Entry) → IsSparse 0 e.place es →
+    but_for column except e.place ≡ nought → Picks column except es part → Picks column except (es ++ e ∷ []) part
+Picks-same column except es part e s z p = record {
+  sparse = λ m t. p.sparse m (last_below 0 m es e t).1;
+  values = λ i l.
+      let b = value_at-push 0 e.place es e i s (omega arith) in
+      elim (eqb_tells e.place i) [
+        | inl q ↦
+            let w : but_for column except i ≡ nought = ap (but_for column except) (sym q.1) ∙ z in
+            value_at-past 0 e.place part i (p.sparse e.place s) (omega (arith, q.1))
+            ∙ sym (ap (λ (y : Fixed). if is_nought (value_at (es ++ e ∷ []) i) then nought else y) w ∙ nought_either (is_nought (value_at (es ++ e ∷ []) i)))
+        | inr q ↦
+            let v = b ∙ ap (λ (y : Bool). if y then e.value else value_at es i) q.0 in
+            p.values i l ∙ sym (ap (λ (y : Fixed). if is_nought y then nought else but_for column except i) v)
+      ];
+}
+
+pub Picks-excepted : (column : List Fixed) (except : ℕ) (es part : List Entry) (e : Entry) → IsSparse 0 e.place es → e.place ≡ except →
+    Picks column except es part → Picks column except (es ++ e ∷ []) part
+Picks-excepted column except es part e s q p =
+    Picks-same column except es part e s (ap (λ (b : Bool). if b then nought else at column e.place) (eq-eqb e.place except q)) p
+
+pub Picks-nought : (column : List Fixed) (except : ℕ) (es part : List Entry) (e : Entry) → IsSparse 0 e.place es → at column e.place ≡ nought →
+    Picks column except es part → Picks column except (es ++ e ∷ []) part
+Picks-nought column except es part e s z p =
+    Picks-same column except es part e s (ap (λ (y : Fixed). if nat_eq e.place except then nought else y) z ∙ nought_either (nat_eq e.place except)) p
+
+-- where the column has no other numbers, they are its entries
+pub Picks-all : (column : List Fixed) (except : ℕ) (es part : List Entry) → IsSparse 0 (length column) es →
+    ((i : ℕ) → i < length column → i ≢ except → is_nought (value_at es i) ≡ true → at column i ≡ nought) → Picks column except es part → AreEntries column except part
+Picks-all column except es part s h p = record {
+  sparse = p.sparse (length column) s;
+  values = λ i l. by i l (is_nought (value_at es i)) refl;
+}
+  where
+    by : (i : ℕ) → i < length column → (t : Bool) → is_nought (value_at es i) ≡ t → value_at part i ≡ but_for column except i
+    by i l false e = p.values i l ∙ ap (λ (y : Bool). if y then nought else but_for column except i) e
+    by i l true e = elim (eqb_tells i except) [
+      | inl q ↦
+          p.values i l ∙ ap (λ (y : Bool). if y then nought else but_for column except i) e
+          ∙ sym (ap (λ (b : Bool). if b then nought else at column i) q.0)
+      | inr q ↦
+          p.values i l ∙ ap (λ (y : Bool). if y then nought else but_for column except i) e
+          ∙ sym (ap (λ (b : Bool). if b then nought else at column i) q.0 ∙ h i l q.1 e)
+    ]

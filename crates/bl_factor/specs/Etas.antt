@@ -2,6 +2,7 @@
 use Rattle.std.specs.Prelude.{◌≡◌, ℕ, List, ◌<◌, map, nat_eq, if◌then◌else◌}
 use Rattle.std.specs.List.{All}
 use Rattle.bl_fixed.specs.declared.Fixed.{Fixed}
+use Rattle.bl_factor.specs.Others.{listed}
 use Rattle.bl_factor.specs.declared.eta.Eta.{Eta}
 use Rattle.bl_factor.specs.Vectors.{nought, column_of, IsPivot}
 use Rattle.bl_factor.specs.Sparse.{IsSparse, value_at}
@@ -9,7 +10,7 @@ use Rattle.bl_factor.specs.Elimination.{Elimination}
 
 -- the column's entry at i
 abbrev pub eta_entry : Eta → ℕ → Fixed
-eta_entry eta i = if nat_eq i eta.place then eta.pivot else value_at eta.others.items i
+eta_entry eta i = if nat_eq i eta.place then eta.pivot else value_at (listed eta.others) i
 
 -- the factor of size n that an eta stands for
 abbrev pub elimination_of : ℕ → Eta → Elimination
@@ -22,8 +23,8 @@ pub record IsEta (n : ℕ) (eta : Eta) : Type 0 where
   pub place_in : eta.place < n
   pub row_in : eta.row < n
   pub pivot : IsPivot eta.pivot
-  pub sparse : IsSparse 0 n eta.others.items
-  pub apart : value_at eta.others.items eta.place ≡ nought
+  pub sparse : IsSparse 0 n (listed eta.others)
+  pub apart : value_at (listed eta.others) eta.place ≡ nought
 
 abbrev pub AreEtas : ℕ → List Eta → Type 0
 AreEtas n etas = All (IsEta n) etas

@@ -2,6 +2,8 @@ pub mod Vectors
 pub mod Sparse
 pub mod Elimination
 pub mod Factored
+pub mod Others
+pub mod Division
 pub mod Etas
 pub mod Reduction
 pub mod Making

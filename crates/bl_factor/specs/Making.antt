@@ -9,7 +9,7 @@ use Rattle.bl_factor.specs.Reduction.{IsReduction}
 
 pub record Reduces (columns : List (Vec Entry)) (r : Reduction) : Type 0 where
   pub flagged : length r.is_open.items ≡ length columns
-  pub counted : length r.counts.items ≡ length columns
+  pub ranked : length r.order.ranks.items ≡ length columns
   pub lower : AreEtas (length columns) r.lower.items
   pub upper : AreEtas (length columns) r.upper.items
   pub reduction : IsReduction (matrix_of (length columns) columns) r.is_open.items (eliminations (length columns) r.lower.items) (eliminations (length columns) r.upper.items)

@@ -1,5 +1,5 @@
 -- A product in the making: some places are closed, and the others open.
-use Rattle.std.specs.Prelude.{◌≡◌, ℕ, Bool, true, false, List, ◌<◌, ◌≤◌, ◌^◌, ◌⊎◌, unsigned_abs, length, reverse, slice_set, slice_index_or, if◌then◌else◌}
+use Rattle.std.specs.Prelude.{◌≡◌, ℕ, Bool, true, false, List, ◌<◌, ◌^◌, ◌⊎◌, unsigned_abs, length, reverse, slice_set, slice_index_or, if◌then◌else◌}
 use Rattle.bl_fixed.specs.declared.Fixed.{Fixed}
 use Rattle.bl_factor.specs.Vectors.{nought, unity, at, column_of, unit_column, IsPivot, IsModerate}
 use Rattle.bl_factor.specs.Elimination.{Elimination, image_under}
@@ -38,12 +38,6 @@ pub record CanPivot (image : List Fixed) (is_open : List Bool) (row : ℕ) : Typ
   pub row_in : row < length image
   pub opened : flag is_open row ≡ true
   pub pivot : IsPivot (at image row)
-
--- of the first n rows, this one is open and has the largest number of the open ones
-pub record IsLargestOpen (image : List Fixed) (is_open : List Bool) (n row : ℕ) : Type 0 where
-  pub row_in : row < n
-  pub opened : flag is_open row ≡ true
-  pub largest : (k : ℕ) → k < n → flag is_open k ≡ true → unsigned_abs (at image k).raw ≤ unsigned_abs (at image row).raw
 
 -- the numbers of all open rows are too small
 abbrev pub HasNoPivot : List Fixed → List Bool → Type 0

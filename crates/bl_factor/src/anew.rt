@@ -1,17 +1,20 @@
 // Making a product anew from the columns of its matrix: lower factors that clear each column at the open places, and upper
-// ones that clear the rest, the last first. Short columns come first, and rows with few entries give the pivots.
-ghost use Rattle.std.specs.Prelude.{◌≡◌, ◌<◌, ◌≤◌, ◌^◌, ◌⊎◌, ◌++◌, ◌∷◌, [], ℕ, true, false, length, IsTrue, ◌↔◌, IfOk, OnOk, IfSome, IfNone};
+// ones that clear the rest, the last first.
+ghost use Rattle.std.specs.Prelude.{◌≡◌, ◌<◌, ◌≤◌, ◌^◌, ◌⊎◌, ◌++◌, ◌∷◌, [], ℕ, true, false, length, IsTrue, ◌↔◌, IfOk, OnOk, IfSome, IfNone, map, unsigned_abs};
 ghost use Rattle.std.specs.List.{All};
 ghost use Rattle.bl_factor.specs.Vectors.{at, unit_column, IsPivot, IsModerate};
 ghost use Rattle.bl_factor.specs.Elimination.{image_under};
 ghost use Rattle.bl_factor.specs.Factored.{column_at, TakesToUnits};
-ghost use Rattle.bl_factor.specs.Reduction.{flag, part_of, lower_step, upper_step, CanPivot, HasNoPivot, IsLargestOpen, IsStuck};
-ghost use Rattle.bl_factor.specs.Sparse.{IsSparse, AreEntries, AreColumns, matrix_of};
+ghost use Rattle.bl_factor.specs.Reduction.{flag, part_of, lower_step, upper_step, CanPivot, HasNoPivot, IsStuck};
+ghost use Rattle.bl_factor.specs.Sparse.{IsSpanned, AreEntries, AreColumns, matrix_of};
 ghost use Rattle.bl_factor.specs.Etas.{IsEta, AreEtas, elimination_of, eliminations};
+ghost use Rattle.bl_factor.specs.Others.{listed, widened};
 
 use crate::eta::Eta;
+use crate::ordering::Order;
+use crate::others::{NarrowEntry, Others};
 use crate::sparse::Entry;
-use crate::{eta, sparse};
+use crate::{division, eta, ordering, sparse};
 use bl_fixed::Fixed;
 use std::alloc::{AllocError, Global};
 
@@ -37,14 +40,17 @@ pub(crate) fn made_anew(
     ensures stuck { IfOk result (λ o. IfNone o (IsStuck (matrix_of (length columns.now) columns.now))) }
 {
     let mut reduction = Reduction::new(alloc, columns)?;
-    for place in places_by_count(alloc, columns)? {
-        if !reduction.close(alloc, columns, place)? {
+    let mut buffer = Vec::from_elem(alloc, Fixed { raw: 0 }, columns.len())?;
+    let image = buffer.as_mut_slice();
+    for step in 0..columns.len() {
+        let place = reduction.place_of(step);
+        if !reduction.close(alloc, columns, place, image)? {
             return Ok(None);
         }
     }
     // All are closed by now; to see it here spares a proof that no place was missed above.
     for place in 0..columns.len() {
-        if !reduction.close(alloc, columns, place)? {
+        if !reduction.close(alloc, columns, place, image)? {
             return Ok(None);
         }
     }
@@ -56,8 +62,8 @@ pub(crate) fn made_anew(
 struct Reduction {
     // The places whose columns are still to come.
     is_open: Vec<bool>,
-    // How many entries of the columns each row has.
-    counts: Vec<u32>,
+    // The order in which they come, and the rank of each row.
+    order: Order,
     lower: Vec<Eta>,
     upper: Vec<Eta>,
 }
@@ -74,21 +80,30 @@ impl Reduction {
         requires { AreColumns (length columns.now) columns.now }
         ensures { IfOk result (Reduces columns.now) }
     {
+        let is_open = open_places(alloc, columns)?;
+        let order = ordering::order_of(alloc, columns, is_open.as_slice())?;
         Ok(Reduction {
-            is_open: open_places(alloc, columns)?,
-            counts: row_counts(alloc, columns)?,
+            is_open,
+            order,
             lower: Vec::new(alloc),
             upper: Vec::new(alloc),
         })
     }
 
-    // Closes a place, unless it is closed, or a pivot is too small or a number too large.
+    // The place that comes at that step; past the last one some number that is no place's.
+    fn place_of(&self, step: usize) -> usize {
+        self.order.places.get(step).copied().unwrap_or(usize::MAX)
+    }
+
+    // Closes a place, unless it is closed, or a pivot is too small or a number too large. `image` is for its work.
     fn close(
         &mut self,
         alloc: Global,
         columns: &[Vec<Entry>],
         place: usize,
+        image: &mut [Fixed],
     ) -> Result<bool, AllocError>
+        requires long { length image.old ≡ length columns.now }
         requires short { length columns.now < 2 ^ 32 }
         requires columns { AreColumns (length columns.now) columns.now }
         requires reduces { Reduces columns.now self.old }
@@ -98,7 +113,7 @@ impl Reduction {
         ensures stuck { IfOk result (λ closed. closed ≡ false → IsStuck (matrix_of (length columns.now) columns.now)) }
     {
         if self.is_open.get(place) == Some(&true) {
-            self.close_open(alloc, columns, place)
+            self.close_open(alloc, columns, place, image)
         } else {
             Ok(true)
         }
@@ -110,7 +125,9 @@ impl Reduction {
         alloc: Global,
         columns: &[Vec<Entry>],
         place: usize,
+        image: &mut [Fixed],
     ) -> Result<bool, AllocError>
+        requires long { length image.old ≡ length columns.now }
         requires short { length columns.now < 2 ^ 32 }
         requires columns { AreColumns (length columns.now) columns.now }
         requires reduces { Reduces columns.now self.old }
@@ -120,21 +137,20 @@ impl Reduction {
         ensures closes { IfOk result (λ closed. IsTrue closed → self.new.is_open.items ≡ slice_set self.old.is_open.items place false) }
         ensures stuck { IfOk result (λ closed. closed ≡ false → IsStuck (matrix_of (length columns.now) columns.now)) }
     {
-        let mut image = column_image(alloc, columns, place, self.lower.as_slice())?;
-        let Some(row) = pivot_row(
-            image.as_slice(),
-            self.is_open.as_slice(),
-            self.counts.as_slice(),
-        ) else {
+        leave_image(columns, place, self.lower.as_slice(), image);
+        let found = sparse::entries_of(alloc, image, columns.len())?;
+        let entries = found.as_slice();
+        let is_open = self.is_open.as_slice();
+        let Some(row) = pivot_row(image, entries, is_open, self.order.ranks.as_slice()) else {
             return Ok(false);
         };
-        if !is_moderate(image.as_slice()) {
+        if !are_moderate(entries) {
             return Ok(false);
         }
         image.swap(place, row);
-        self.counts.swap(place, row);
-        let lower = lower_factor(alloc, image.as_slice(), self.is_open.as_slice(), place, row)?;
-        let upper = upper_factor(alloc, image.as_slice(), self.is_open.as_slice(), place)?;
+        self.order.ranks.swap(place, row);
+        let lower = lower_factor(alloc, image, entries, is_open, place, row)?;
+        let upper = upper_factor(alloc, image, entries, is_open, place)?;
         self.lower.push(lower)?;
         push_unless_unit(&mut self.upper, upper)?;
         self.is_open[place] = false;
@@ -150,7 +166,7 @@ impl Reduction {
     {
         let Reduction {
             is_open: _,
-            counts: _,
+            order: _,
             mut lower,
             mut upper,
         } = self;
@@ -173,97 +189,116 @@ fn open_places(alloc: Global, columns: &[Vec<Entry>]) -> Result<Vec<bool>, Alloc
     Ok(is_open)
 }
 
-fn row_counts(alloc: Global, columns: &[Vec<Entry>]) -> Result<Vec<u32>, AllocError>
-    requires { AreColumns (length columns.now) columns.now }
-    ensures { IfOk result (λ counts. length counts.items ≡ length columns.now) }
+fn are_moderate(entries: &[Entry]) -> bool
+    ensures { IsTrue result ↔ All (λ e. unsigned_abs e.value.raw < 2 ^ 87) entries.now }
 {
-    let mut counts = Vec::from_elem(alloc, 0u32, columns.len())?;
-    for column in columns {
-        add_counts(counts.as_mut_slice(), column.as_slice());
-    }
-    Ok(counts)
-}
-
-fn add_counts(counts: &mut [u32], column: &[Entry])
-    requires { IsSparse 0 (length counts.old) column.now }
-{
-    for entry in column {
-        let count = &mut counts[entry.place as usize];
-        *count = count.saturating_add(1);
-    }
-}
-
-// The places, those with short columns first.
-fn places_by_count(alloc: Global, columns: &[Vec<Entry>]) -> Result<Vec<usize>, AllocError> {
-    let mut places = Vec::with_capacity(alloc, columns.len())?;
-    for place in 0..columns.len() {
-        places.push(place)?;
-    }
-    places.sort_unstable_by_key(|place| columns.get(*place).map_or(0, |column| column.len()));
-    Ok(places)
-}
-
-fn is_moderate(column: &[Fixed]) -> bool
-    ensures { IsTrue result ↔ IsModerate column.now }
-{
-    column
+    entries
         .iter()
-        .all(|number| number.raw.unsigned_abs() < LEAST_IMMODERATE)
+        .all(|entry| entry.value.raw.unsigned_abs() < LEAST_IMMODERATE)
 }
 
-// The image of a column.
-fn column_image(
-    alloc: Global,
-    columns: &[Vec<Entry>],
-    place: usize,
-    etas: &[Eta],
-) -> Result<Vec<Fixed>, AllocError>
+// Leaves in `image` that of a column.
+fn leave_image(columns: &[Vec<Entry>], place: usize, etas: &[Eta], image: &mut [Fixed])
+    requires long { length image.old ≡ length columns.now }
     requires columns { AreColumns (length columns.now) columns.now }
     requires place_in { place < length columns.now }
     requires etas { AreEtas (length columns.now) etas.now }
-    ensures long { IfOk result (λ image. length image.items ≡ length columns.now) }
-    ensures value { IfOk result (λ image. image.items ≡ image_under (eliminations (length columns.now) etas.now)
-        (column_at (matrix_of (length columns.now) columns.now) place)) }
+    ensures value { image.new ≡ image_under (eliminations (length columns.now) etas.now)
+        (column_at (matrix_of (length columns.now) columns.now) place) }
 {
-    let mut image = sparse::whole(alloc, columns.len(), columns[place].as_slice())?;
-    eta::apply_all(etas, image.as_mut_slice());
-    Ok(image)
+    sparse::spread(columns[place].as_slice(), image);
+    eta::apply_all(etas, image);
 }
 
-// The entries of an image at the open places, or at the closed ones, but for the one at `except`.
+// The entries of an image at the open places, or at the closed ones, but for the one at `except`. It has none but at
+// the places of the given ones.
+fn part_others(
+    alloc: Global,
+    image: &[Fixed],
+    entries: &[Entry],
+    is_open: &[bool],
+    of_open: bool,
+    except: usize,
+) -> Result<Others, AllocError>
+    requires flagged { length is_open.now ≡ length image.now }
+    requires spanned { IsSpanned image.now except entries.now }
+    ensures { IfOk result (λ others. AreEntries (part_of image.now is_open.now of_open) except (listed others)) }
+{
+    match narrow_part(alloc, image, entries, is_open, of_open, except)? {
+        Some(part) => Ok(Others::Narrow(part)),
+        None => Ok(Others::Wide(part_entries(alloc, image, entries, is_open, of_open, except)?)),
+    }
+}
+
+// The same as entries of 64 bits, where all are.
+fn narrow_part(
+    alloc: Global,
+    image: &[Fixed],
+    entries: &[Entry],
+    is_open: &[bool],
+    of_open: bool,
+    except: usize,
+) -> Result<Option<Vec<NarrowEntry>>, AllocError>
+    requires flagged { length is_open.now ≡ length image.now }
+    requires spanned { IsSpanned image.now except entries.now }
+    ensures { IfOk result (λ o. IfSome o (λ part. AreEntries (part_of image.now is_open.now of_open) except (map widened part.items))) }
+{
+    let mut part = Vec::with_capacity(alloc, entries.len())?;
+    for entry in entries {
+        let place = entry.place as usize;
+        let value = image[place];
+        if value.raw != 0 && place != except && is_open[place] == of_open {
+            let Ok(raw) = i64::try_from(value.raw) else {
+                return Ok(None);
+            };
+            part.push(NarrowEntry {
+                raw,
+                place: entry.place,
+            })?;
+        }
+    }
+    Ok(Some(part))
+}
+
+// The same as entries of any numbers.
 fn part_entries(
     alloc: Global,
     image: &[Fixed],
+    entries: &[Entry],
     is_open: &[bool],
     of_open: bool,
     except: usize,
 ) -> Result<Vec<Entry>, AllocError>
-    requires short { length image.now < 2 ^ 32 }
     requires flagged { length is_open.now ≡ length image.now }
-    ensures { IfOk result (λ entries. AreEntries (part_of image.now is_open.now of_open) except entries.items) }
+    requires spanned { IsSpanned image.now except entries.now }
+    ensures { IfOk result (λ part. AreEntries (part_of image.now is_open.now of_open) except part.items) }
 {
-    let mut entries = Vec::new(alloc);
-    for (place, value) in image.iter().enumerate() {
+    let mut part = Vec::with_capacity(alloc, entries.len())?;
+    for entry in entries {
+        let place = entry.place as usize;
+        let value = image[place];
         if value.raw != 0 && place != except && is_open[place] == of_open {
-            entries.push(Entry {
-                place: place as u32,
-                value: *value,
+            part.push(Entry {
+                place: entry.place,
+                value,
             })?;
         }
     }
-    Ok(entries)
+    Ok(part)
 }
 
 // The factor that clears the open places but one of an image, whose entries at `place` and `row` have changed places.
 fn lower_factor(
     alloc: Global,
     image: &[Fixed],
+    entries: &[Entry],
     is_open: &[bool],
     place: usize,
     row: usize,
 ) -> Result<Eta, AllocError>
     requires short { length image.now < 2 ^ 32 }
     requires flagged { length is_open.now ≡ length image.now }
+    requires spanned { IsSpanned image.now place entries.now }
     requires place_in { place < length image.now }
     requires row_in { row < length image.now }
     requires is_open { flag is_open.now place ≡ true }
@@ -271,11 +306,13 @@ fn lower_factor(
     ensures eta { IfOk result (IsEta (length image.now)) }
     ensures value { IfOk result (λ eta. elimination_of (length image.now) eta ≡ lower_step image.now is_open.now place row) }
 {
+    let others = part_others(alloc, image, entries, is_open, true, place)?;
     Ok(Eta {
-        place,
-        row,
+        place: place as u32,
+        row: row as u32,
         pivot: image[place],
-        others: part_entries(alloc, image, is_open, true, place)?,
+        reciprocal: division::reciprocal_of(image[place]),
+        others,
     })
 }
 
@@ -283,26 +320,30 @@ fn lower_factor(
 fn upper_factor(
     alloc: Global,
     image: &[Fixed],
+    entries: &[Entry],
     is_open: &[bool],
     place: usize,
 ) -> Result<Eta, AllocError>
     requires short { length image.now < 2 ^ 32 }
     requires flagged { length is_open.now ≡ length image.now }
+    requires spanned { IsSpanned image.now place entries.now }
     requires place_in { place < length image.now }
     ensures eta { IfOk result (IsEta (length image.now)) }
     ensures value { IfOk result (λ eta. elimination_of (length image.now) eta ≡ upper_step image.now is_open.now place) }
 {
+    let others = part_others(alloc, image, entries, is_open, false, place)?;
     Ok(Eta {
-        place,
-        row: place,
+        place: place as u32,
+        row: place as u32,
         pivot: bl_fixed::from_int(1),
-        others: part_entries(alloc, image, is_open, false, place)?,
+        reciprocal: 0,
+        others,
     })
 }
 
 // Adds a factor with the pivot 1, unless it has nothing else.
 fn push_unless_unit(etas: &mut Vec<Eta>, eta: Eta) -> Result<(), AllocError>
-    ensures { OnOk result ((etas.new.items ≡ etas.old.items ++ eta ∷ []) ⊎ ((etas.new.items ≡ etas.old.items) × (eta.others.items ≡ []))) }
+    ensures { OnOk result ((etas.new.items ≡ etas.old.items ++ eta ∷ []) ⊎ ((etas.new.items ≡ etas.old.items) × (listed eta.others ≡ []))) }
 {
     if !eta.others.is_empty() {
         etas.push(eta)?;
@@ -310,43 +351,42 @@ fn push_unless_unit(etas: &mut Vec<Eta>, eta: Eta) -> Result<(), AllocError>
     Ok(())
 }
 
-// Among the open rows whose numbers are large enough, the first of those with the fewest entries.
-fn pivot_row(image: &[Fixed], is_open: &[bool], counts: &[u32]) -> Option<usize>
+// Among the open rows whose numbers are large enough, the one of the least rank.
+fn pivot_row(image: &[Fixed], entries: &[Entry], is_open: &[bool], ranks: &[u32]) -> Option<usize>
     requires flagged { length is_open.now ≡ length image.now }
-    requires counted { length counts.now ≡ length image.now }
+    requires ranked { length ranks.now ≡ length image.now }
+    requires entries { AreEntries image.now (length image.now) entries.now }
     ensures pivot { IfSome result (CanPivot image.now is_open.now) }
     ensures none { IfNone result (HasNoPivot image.now is_open.now) }
 {
-    let largest = largest_open(image, is_open)?;
-    let size = image[largest].raw.unsigned_abs();
-    if size < LEAST_PIVOT {
-        return None;
-    }
-    let least = (size / PIVOT_PART).max(LEAST_PIVOT);
+    let largest = largest_open(image, entries, is_open)?;
+    let least = (image[largest].raw.unsigned_abs() / PIVOT_PART).max(LEAST_PIVOT);
     let mut best = largest;
-    for (row, number) in image.iter().enumerate() {
-        if is_open[row] && number.raw.unsigned_abs() >= least && counts[row] < counts[best] {
+    for entry in entries {
+        let row = entry.place as usize;
+        let size = image[row].raw.unsigned_abs();
+        if least <= size && is_open[row] && ranks[row] < ranks[best] {
             best = row;
         }
     }
     Some(best)
 }
 
-// The first open row with the largest number.
-fn largest_open(image: &[Fixed], is_open: &[bool]) -> Option<usize>
-    requires { length is_open.now ≡ length image.now }
-    ensures largest { IfSome result (IsLargestOpen image.now is_open.now (length image.now)) }
-    ensures none { IfNone result ((k : ℕ) → k < length image.now → flag is_open.now k ≡ false) }
+// The first open row with the largest number, where that is large enough.
+fn largest_open(image: &[Fixed], entries: &[Entry], is_open: &[bool]) -> Option<usize>
+    requires flagged { length is_open.now ≡ length image.now }
+    requires entries { AreEntries image.now (length image.now) entries.now }
+    ensures pivot { IfSome result (CanPivot image.now is_open.now) }
+    ensures none { IfNone result (HasNoPivot image.now is_open.now) }
 {
     let mut largest = None;
-    for (row, number) in image.iter().enumerate() {
-        if is_open[row] {
-            largest = match largest {
-                Some(other) if image[other].raw.unsigned_abs() >= number.raw.unsigned_abs() => Some(
-                    other,
-                ),
-                _ => Some(row),
-            };
+    let mut most = LEAST_PIVOT - 1;
+    for entry in entries {
+        let row = entry.place as usize;
+        let size = image[row].raw.unsigned_abs();
+        if most < size && is_open[row] {
+            most = size;
+            largest = Some(row);
         }
     }
     largest

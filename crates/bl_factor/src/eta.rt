@@ -7,19 +7,23 @@ ghost use Rattle.bl_factor.specs.Etas.{IsEta, AreEtas, elimination_of, eliminati
 ghost use Rattle.bl_fixed.specs.Fixed.{saturated_difference, saturated_product, saturated_quotient};
 ghost use Rattle.bl_factor.specs.Elimination.{less_multiple, eliminated, eliminated_transposed, taken_off, image_under, transposed_image_under};
 
+use crate::division::{quotient, reciprocal_of};
+use crate::others::Others;
 use crate::sparse;
-use crate::sparse::Entry;
-use bl_fixed::{Fixed, saturating_div, saturating_mul, saturating_sub};
+use bl_fixed::Fixed;
 use std::alloc::{AllocError, Global};
 
 /// An elementary factor: the entries at `place` and `row` change places, and then the column with `pivot` at
 /// `place` and `others` elsewhere is turned into the unit column of `place`.
 #[derive(Drop)]
 pub(crate) struct Eta {
-    pub place: usize,
-    pub row: usize,
+    // First, so that a factor has 64 bytes.
     pub pivot: Fixed,
-    pub others: Vec<Entry>,
+    pub place: u32,
+    pub row: u32,
+    // A guess at the pivot's reciprocal; quotients do not depend on it.
+    pub reciprocal: u64,
+    pub others: Others,
 }
 
 impl Eta {
@@ -27,23 +31,25 @@ impl Eta {
         requires { IsEta (length right.old) self.now }
         ensures { right.new ≡ eliminated (elimination_of (length right.old) self.now) right.old }
     {
-        exchange(right, self.place, self.row);
-        let at_place = right[self.place];
+        let place = self.place as usize;
+        exchange(right, place, self.row as usize);
+        let at_place = right[place];
         if at_place.raw == 0 {
             return;
         }
-        let quotient = saturating_div(at_place, self.pivot);
-        right[self.place] = quotient;
-        subtract_multiple(right, self.others.as_slice(), quotient);
+        let quotient = quotient(at_place, self.pivot, self.reciprocal);
+        right[place] = quotient;
+        self.others.subtract(right, quotient);
     }
 
     fn apply_transposed(&self, right: &mut [Fixed])
         requires { IsEta (length right.old) self.now }
         ensures { right.new ≡ eliminated_transposed (elimination_of (length right.old) self.now) right.old }
     {
-        let rest = rest_after(right, self.others.as_slice(), right[self.place]);
-        right[self.place] = quotient(rest, self.pivot);
-        exchange(right, self.place, self.row);
+        let place = self.place as usize;
+        let rest = self.others.rest_after(right, right[place]);
+        right[place] = quotient(rest, self.pivot, self.reciprocal);
+        exchange(right, place, self.row as usize);
     }
 }
 
@@ -53,55 +59,10 @@ fn exchange(right: &mut [Fixed], place: usize, row: usize)
     requires row_in { row < length right.old }
     ensures { right.new ≡ swap right.old place row }
 {
-    if row != place {
-        right.swap(place, row);
-    }
-}
-
-// Takes off the entries' multiples.
-fn subtract_multiple(right: &mut [Fixed], entries: &[Entry], factor: Fixed)
-    requires { IsSparse 0 (length right.old) entries.now }
-    ensures { right.new ≡ column_of (length right.old) (λ i. less_multiple (at right.old i) (value_at entries.now i) factor) }
-{
-    for entry in entries {
-        let number = &mut right[entry.place as usize];
-        *number = saturating_sub(*number, saturating_mul(entry.value, factor));
-    }
-}
-
-// What is left of `start` after the products of the entries and those of `right`.
-fn rest_after(right: &[Fixed], entries: &[Entry], start: Fixed) -> Fixed
-    requires { IsSparse 0 (length right.now) entries.now }
-    ensures { result ≡ taken_off (value_at entries.now) right.now 0 (length right.now) start }
-{
-    let mut rest = start;
-    for entry in entries {
-        rest = less_product(rest, entry.value, right[entry.place as usize]);
-    }
-    rest
-}
-
-// The number less a product; many are of 0.
-fn less_product(number: Fixed, a: Fixed, b: Fixed) -> Fixed
-    ensures { result ≡ saturated_difference number (saturated_product a b) }
-{
-    if b.raw == 0 {
-        number
-    } else {
-        saturating_sub(number, saturating_mul(a, b))
-    }
-}
-
-// The quotient by a pivot; most are of 0.
-fn quotient(number: Fixed, pivot: Fixed) -> Fixed
-    requires { IsPivot pivot }
-    ensures { result ≡ saturated_quotient number pivot }
-{
-    if number.raw == 0 {
-        number
-    } else {
-        saturating_div(number, pivot)
-    }
+    let at_place = right[place];
+    let at_row = right[row];
+    right[row] = at_place;
+    right[place] = at_row;
 }
 
 // Leaves the image of `right` in it.
@@ -138,11 +99,14 @@ pub(crate) fn make(
     ensures eta { IfOk result (IsEta (length column.now)) }
     ensures value { IfOk result (λ eta. elimination_of (length column.now) eta ≡ record { place = place; row = row; column = column.now }) }
 {
+    let entries = sparse::entries_of(alloc, column, place)?;
+    let others = Others::packed(alloc, entries)?;
     Ok(Eta {
-        place,
-        row,
+        place: place as u32,
+        row: row as u32,
         pivot: column[place],
-        others: sparse::entries_of(alloc, column, place)?,
+        reciprocal: reciprocal_of(column[place]),
+        others,
     })
 }
 

@@ -2,7 +2,11 @@
 #![tactic(auto)]
 
 mod anew;
+mod division;
 mod eta;
+mod ordering;
+mod others;
+mod pattern;
 mod sparse;
 
 use crate::eta::Eta;
@@ -17,7 +21,7 @@ const MOST_REPLACEMENTS: usize = 100;
 /// After this many it is made anew where it has grown much.
 const SOME_REPLACEMENTS: usize = 20;
 
-/// Grown much: so many times the entries that it had when it was last made anew, and so many per row.
+/// Grown much: more than so many times the entries that it had when it was last made anew, and more than so many per row.
 const GROWTH: usize = 4;
 
 const ENTRIES_PER_ROW: usize = 20;
@@ -29,8 +33,9 @@ pub struct Factor {
     alloc: Global,
     columns: Vec<Vec<Entry>>,
     etas: Vec<Eta>,
-    // How many factors the product had when it was last made anew.
+    // How many factors and entries the product had when it was last made anew, or that was last tried.
     fresh: usize,
+    fresh_entries: usize,
 }
 
 impl Model for Factor {
@@ -69,12 +74,14 @@ impl Factor {
             columns,
             etas: Vec::new(alloc),
             fresh: 0,
+            fresh_entries: 0,
         })
     }
 
     /// The matrix with these columns, each of rising places below their number and without zeros. None where the
-    /// making of a product, which takes the shorter columns first, meets a column whose image has no number of raw
-    /// size 2^20 or more to take for a pivot, or a number of raw size 2^87 or more.
+    /// making of a product, which takes the columns in an order that gives it few entries, meets a column whose image
+    /// has at the places left no number of raw size 2^20 or more to take for a pivot, or has one of raw size 2^87 or
+    /// more.
     pub fn from_columns(
         alloc: Global,
         columns: Vec<Vec<Entry>>,
@@ -88,11 +95,13 @@ impl Factor {
         match anew::made_anew(alloc, columns.as_slice())? {
             Some(etas) => {
                 let fresh = etas.len();
+                let fresh_entries = eta::entry_count(etas.as_slice());
                 Ok(Some(Factor {
                     alloc,
                     columns,
                     etas,
                     fresh,
+                    fresh_entries,
                 }))
             }
             None => Ok(None),
@@ -160,6 +169,7 @@ impl Factor {
         self.extend(place as usize, column, image)?;
         if self.is_due() {
             self.renew();
+            self.count_as_fresh();
         }
         Ok(())
     }
@@ -196,13 +206,17 @@ impl Factor {
 
     // Whether the product is to be made anew.
     fn is_due(&self) -> bool {
+        let replacements = self.etas.len().saturating_sub(self.fresh);
+        replacements >= MOST_REPLACEMENTS || (replacements >= SOME_REPLACEMENTS && self.has_grown())
+    }
+
+    // Whether the product has grown much since it was last made anew, or that was last tried.
+    fn has_grown(&self) -> bool {
         let fresh = self.fresh.min(self.etas.len());
-        let replacements = self.etas.len() - fresh;
-        let fresh_entries = eta::entry_count(&self.etas.as_slice()[..fresh]);
-        let entries = eta::entry_count(self.etas.as_slice());
-        let has_grown = entries > fresh_entries.saturating_mul(GROWTH)
-            && entries > self.columns.len().saturating_mul(ENTRIES_PER_ROW);
-        replacements >= MOST_REPLACEMENTS || (replacements >= SOME_REPLACEMENTS && has_grown)
+        let added = eta::entry_count(&self.etas.as_slice()[fresh..]);
+        let entries = self.fresh_entries.saturating_add(added);
+        entries > self.fresh_entries.saturating_mul(GROWTH)
+            && entries > self.columns.len().saturating_mul(ENTRIES_PER_ROW)
     }
 
     // Makes the product anew from the matrix; it stays where that finds no pivot or no memory.
@@ -212,9 +226,16 @@ impl Factor {
         ensures exact { AreModerate self.new.steps → IsExact self.new }
     {
         if let Ok(Some(etas)) = anew::made_anew(self.alloc, self.columns.as_slice()) {
-            self.fresh = etas.len();
             self.etas = etas;
         }
+    }
+
+    // Counts replacements and entries from here on.
+    fn count_as_fresh(&mut self)
+        ensures { self.new ≡ self.old }
+    {
+        self.fresh = self.etas.len();
+        self.fresh_entries = eta::entry_count(self.etas.as_slice());
     }
 }
 

@@ -9,8 +9,9 @@ use std::alloc::{AllocError, Global};
 /// A number of a column that is not 0.
 #[derive(Clone, Copy)]
 pub struct Entry {
-    pub place: u32,
+    // First, so that copies need no padding between.
     pub value: Fixed,
+    pub place: u32,
 }
 
 // The unit column of a place.
@@ -30,7 +31,7 @@ pub(crate) fn entries_of(
     requires { length column.now < 2 ^ 32 }
     ensures { IfOk result (λ entries. AreEntries column.now except entries.items) }
 {
-    let mut entries = Vec::new(alloc);
+    let mut entries = Vec::with_capacity(alloc, filled_count(column))?;
     for (place, value) in column.iter().enumerate() {
         if value.raw != 0 && place != except {
             entries.push(Entry {
@@ -42,17 +43,24 @@ pub(crate) fn entries_of(
     Ok(entries)
 }
 
-// The whole column of `size` numbers.
-pub(crate) fn whole(alloc: Global, size: usize, entries: &[Entry]) -> Result<Vec<Fixed>, AllocError>
-    requires { IsSparse 0 size entries.now }
-    ensures long { IfOk result (λ column. length column.items ≡ size) }
-    ensures value { IfOk result (λ column. column.items ≡ dense size entries.now) }
+// How many numbers of a column are not 0.
+fn filled_count(column: &[Fixed]) -> usize {
+    let mut count = 0usize;
+    for value in column {
+        count = count.saturating_add(usize::from(value.raw != 0));
+    }
+    count
+}
+
+// Leaves in `column` the whole column with these entries.
+pub(crate) fn spread(entries: &[Entry], column: &mut [Fixed])
+    requires { IsSparse 0 (length column.old) entries.now }
+    ensures { column.new ≡ dense (length column.old) entries.now }
 {
-    let mut column = Vec::from_elem(alloc, Fixed { raw: 0 }, size)?;
+    column.fill(Fixed { raw: 0 });
     for entry in entries {
         column[entry.place as usize] = entry.value;
     }
-    Ok(column)
 }
 
 // Whether these are the entries of the unit column of that place.

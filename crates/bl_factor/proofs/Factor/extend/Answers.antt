@@ -14,7 +14,7 @@ invariant_of-self-2 c =
 
 pub returns-clause-matrix : goal.returns-clause-matrix
 returns-clause-matrix c =
-    (replaced c.self.inside (record { alloc = c.self.inside.alloc; columns = with_item c.self.inside.columns c.args.place c.in_ok-entries.entries; etas = c.push.new.self; fresh = c.self.inside.fresh })
+    (replaced c.self.inside (record { alloc = c.self.inside.alloc; columns = with_item c.self.inside.columns c.args.place c.in_ok-entries.entries; etas = c.push.new.self; fresh = c.self.inside.fresh; fresh_entries = c.self.inside.fresh_entries })
     c.args.self.now c.args.place c.args.column.now c.in_ok-entries.entries c.in_ok-eta.eta c.self.invariant c.self.view_is
     c.requires.place_in c.requires.long (subst (λ (xs : List Fixed). IsPivot (at xs c.args.place)) c.requires.image c.requires.pivot) c.in_ok-entries.ensures c.in_ok-eta.ensures.eta c.in_ok-eta.ensures.value
     refl c.in_ok-push.ensures.items).matrix
@@ -22,7 +22,7 @@ returns-clause-matrix c =
 
 pub returns-clause-exact : goal.returns-clause-exact
 returns-clause-exact c =
-    (replaced c.self.inside (record { alloc = c.self.inside.alloc; columns = with_item c.self.inside.columns c.args.place c.in_ok-entries.entries; etas = c.push.new.self; fresh = c.self.inside.fresh })
+    (replaced c.self.inside (record { alloc = c.self.inside.alloc; columns = with_item c.self.inside.columns c.args.place c.in_ok-entries.entries; etas = c.push.new.self; fresh = c.self.inside.fresh; fresh_entries = c.self.inside.fresh_entries })
     c.args.self.now c.args.place c.args.column.now c.in_ok-entries.entries c.in_ok-eta.eta c.self.invariant c.self.view_is
     c.requires.place_in c.requires.long (subst (λ (xs : List Fixed). IsPivot (at xs c.args.place)) c.requires.image c.requires.pivot) c.in_ok-entries.ensures c.in_ok-eta.ensures.eta c.in_ok-eta.ensures.value
     refl c.in_ok-push.ensures.items).kept.exact

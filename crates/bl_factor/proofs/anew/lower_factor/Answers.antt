@@ -13,17 +13,19 @@ pub returns-clause-eta : goal.returns-clause-eta
 returns-clause-eta c =
     let image = c.args.image.now in
     let column = part_of image c.args.is_open.now true in
-    let eta : Eta = record { place = c.args.place; row = c.args.row; pivot = at image c.args.place; others = c.in_ok-part_entries.field-0 } in
+    let a = c.in_ok-others.ensures in
+    let eta : Eta = record { place = c.args.place; row = c.args.row; pivot = at image c.args.place; reciprocal = c.reciprocal_of.result; others = c.in_ok-others.others } in
     let n : length column ≡ length image = length-column_of (length image) (part_entry image c.args.is_open.now true) in
     subst (λ (j : ℕ). IsEta j eta) n
-    (IsEta-entries column eta (omega (arith, n, c.requires.place_in)) (omega (arith, n, c.requires.row_in)) c.requires.pivot c.in_ok-part_entries.ensures)
+    (IsEta-entries column eta (omega (arith, n, c.requires.place_in)) (omega (arith, n, c.requires.row_in)) c.requires.pivot a)
 
 pub returns-clause-value : goal.returns-clause-value
 returns-clause-value c =
     let image = c.args.image.now in
     let place = c.args.place in
     let column = part_of image c.args.is_open.now true in
-    let eta : Eta = record { place = place; row = c.args.row; pivot = at image place; others = c.in_ok-part_entries.field-0 } in
+    let a = c.in_ok-others.ensures in
+    let eta : Eta = record { place = place; row = c.args.row; pivot = at image place; reciprocal = c.reciprocal_of.result; others = c.in_ok-others.others } in
     let n : length column ≡ length image = length-column_of (length image) (part_entry image c.args.is_open.now true) in
-    let e = column-eta column eta (sym (at-part_open image c.args.is_open.now place c.requires.place_in c.requires.is_open)) c.in_ok-part_entries.ensures in
+    let e = column-eta column eta (sym (at-part_open image c.args.is_open.now place c.requires.place_in c.requires.is_open)) a in
     ap (λ (xs : List Fixed). record { place = place; row = c.args.row; column = xs }) (ap (λ (j : ℕ). column_of j (eta_entry eta)) (sym n) ∙ e)

@@ -1,6 +1,7 @@
 use Rattle.std.proofs.Common.{◌≡◌, ◌<◌, ℕ, false, List, length, ap, sym, subst, ◌∙◌, arith}
 use Rattle.std.proofs.lemmas.List.{length-set}
 use Rattle.bl_fixed.specs.declared.Fixed.{Fixed}
+use Rattle.bl_factor.specs.Others.{listed}
 use Rattle.bl_factor.specs.declared.eta.Eta.{Eta}
 use Rattle.bl_factor.specs.Vectors.{unity, column_of, IsPivot}
 use Rattle.bl_factor.specs.Reduction.{part_entry, part_of, upper_column}
@@ -15,12 +16,13 @@ returns-clause-eta c =
     let image = c.args.image.now in
     let place = c.args.place in
     let column = part_of image c.args.is_open.now false in
-    let eta : Eta = record { place = place; row = place; pivot = c.from_int.result; others = c.in_ok-part_entries.field-0 } in
+    let a = c.in_ok-others.ensures in
+    let eta : Eta = record { place = place; row = place; pivot = c.from_int.result; reciprocal = 0; others = c.in_ok-others.others } in
     let n : length column ≡ length image = length-column_of (length image) (part_entry image c.args.is_open.now false) in
     let u : c.from_int.result ≡ unity = ap (λ (z : _). record { raw = z }) c.from_int.ensures in
     let h : place < length column = omega (arith, n, c.requires.place_in) in
     subst (λ (j : ℕ). IsEta j eta) n
-    (IsEta-entries column eta h h (subst (λ (x : Fixed). IsPivot x) (sym u) (omega arith)) c.in_ok-part_entries.ensures)
+    (IsEta-entries column eta h h (subst (λ (x : Fixed). IsPivot x) (sym u) (omega arith)) a)
 
 pub returns-clause-value : goal.returns-clause-value
 returns-clause-value c =
@@ -29,10 +31,11 @@ returns-clause-value c =
     let place = c.args.place in
     let column = part_of image is_open false in
     let upper = upper_column image is_open place in
-    let eta : Eta = record { place = place; row = place; pivot = c.from_int.result; others = c.in_ok-part_entries.field-0 } in
+    let a = c.in_ok-others.ensures in
+    let eta : Eta = record { place = place; row = place; pivot = c.from_int.result; reciprocal = 0; others = c.in_ok-others.others } in
     let n : length column ≡ length image = length-column_of (length image) (part_entry image is_open false) in
     let m : length upper ≡ length image = length-set column place unity ∙ n in
     let u : c.from_int.result ≡ unity = ap (λ (z : _). record { raw = z }) c.from_int.ensures in
     let e = column-eta upper eta (u ∙ sym (at-upper_place image is_open place c.requires.place_in))
-    (AreEntries-set column place unity eta.others.items (omega (arith, n, c.requires.place_in)) c.in_ok-part_entries.ensures) in
+    (AreEntries-set column place unity (listed eta.others) (omega (arith, n, c.requires.place_in)) a) in
     ap (λ (xs : List Fixed). record { place = place; row = place; column = xs }) (ap (λ (j : ℕ). column_of j (eta_entry eta)) (sym m) ∙ e)

@@ -15,14 +15,14 @@ returns c =
     let n = length columns in
     let matrix = matrix_of n columns in
     let m : length matrix ≡ n = length-map columns _ in
-    let is_open = c.in_ok-open_places.field-0 in
+    let is_open = c.in_ok-is_open.is_open in
     let s = IsReduction-start matrix is_open.items
-    (λ k h f. c.in_ok-open_places.ensures.closed k (omega (arith, m)) f ∙ ap (λ (j : ℕ). unit_column j k) (sym m)) in
+    (λ k h f. c.in_ok-is_open.ensures.closed k (omega (arith, m)) f ∙ ap (λ (j : ℕ). unit_column j k) (sym m)) in
     let none = ap (eliminations n) c.new.ensures.items in
     let none' = ap (eliminations n) c.new-2.ensures.items in
     record {
-      flagged = c.in_ok-open_places.ensures.flagged;
-      counted = c.in_ok-row_counts.ensures;
+      flagged = c.in_ok-is_open.ensures.flagged;
+      ranked = c.in_ok-order.ensures;
       lower = All-same (IsEta n) c.new.result.items _ c.new.ensures.items (All-nil (IsEta n));
       upper = All-same (IsEta n) c.new-2.result.items _ c.new-2.ensures.items (All-nil (IsEta n));
       reduction = subst (λ (us : List Elimination). IsReduction matrix is_open.items (eliminations n c.new.result.items) us) (sym none')

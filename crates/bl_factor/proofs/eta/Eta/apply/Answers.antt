@@ -1,6 +1,7 @@
 use Rattle.std.proofs.Common.{◌∙◌, ap, sym, subst, length, set, List, ℕ, FitsSigned, rules}
 use Rattle.std.specs.Int.{w128}
 use Rattle.std.proofs.lemmas.List.{length-set}
+use Rattle.bl_factor.specs.Others.{listed}
 use Rattle.bl_factor.specs.declared.sparse.Entry.{Entry}
 use Rattle.bl_factor.specs.Vectors.{at, column_of}
 use Rattle.bl_factor.specs.Sparse.{value_at}
@@ -25,14 +26,13 @@ returns c =
     let n = c.exchange.auto.right in
     let e = elimination_of (length c.args.right.now) eta in
     let w = subst (λ (n : ℕ). IsEta n eta) (sym n) c.requires in
-    let q = c.saturating_div-quotient.result in
+    let q = c.quotient-quotient.result in
     let f = is_nought-no (at ys eta.place) c.if-at_place-eq0.false in
-    let l = cleared-eta eta ys q w f c.saturating_div-quotient.ensures in
+    let l = cleared-eta eta ys q w f c.quotient-quotient.ensures in
     let zs = set ys eta.place q in
     let F = λ (m : ℕ) (es : List Entry). column_of m (λ i. less_multiple (at zs i) (value_at es i) q) in
-    c.subtract_multiple.ensures
-    ∙ ap (F (length zs)) c.as_slice.ensures.value
-    ∙ ap (λ (m : ℕ). F m eta.others.items) (length-set ys eta.place q)
+    c.subtract.ensures
+    ∙ ap (λ (m : ℕ). F m (listed eta.others)) (length-set ys eta.place q)
     ∙ l
     ∙ ap (λ (m : ℕ). cleared (elimination_of m eta) ys) n
     ∙ eliminated-cleared e c.args.right.now ys c.exchange.ensures

@@ -1,4 +1,5 @@
-use Rattle.std.proofs.Common.{◌∙◌, length}
+use Rattle.std.proofs.Common.{◌∙◌, refl, length}
+use Rattle.bl_factor.specs.Others.{listed}
 use Rattle.bl_factor.specs.Etas.{elimination_of}
 use Rattle.bl_factor.proofs.EtaLemmas.{transposed-eta, eliminated_transposed-swap}
 use Rattle.bl_factor.proofs.eta.Eta.apply_transposed.Goals as goal
@@ -7,5 +8,5 @@ pub returns : goal.returns
 returns c =
     let eta = c.args.self.now in
     let xs = c.args.right.now in
-    let t = transposed-eta eta xs c.as_slice.result.now c.rest_after-rest.result c.requires c.as_slice.ensures.value c.rest_after-rest.ensures in
+    let t = transposed-eta eta xs (listed eta.others) c.rest_after-rest.result c.requires refl c.rest_after-rest.ensures in
     c.exchange.ensures ∙ eliminated_transposed-swap (elimination_of (length xs) eta) xs c.quotient.result (c.quotient.ensures ∙ t)

@@ -3,7 +3,7 @@ use Rattle.std.proofs.lemmas.List.{take_all}
 use Rattle.std.proofs.lemmas.List.Sums.{fold_more}
 use Rattle.bl_factor.specs.Sparse.{value_at}
 use Rattle.bl_factor.proofs.SparseLemmas.{no_entry, next_entry, less_entry, taken_off-entries}
-use Rattle.bl_factor.proofs.eta.rest_after.Goals as goal
+use Rattle.bl_factor.proofs.others.rest_after.Goals as goal
 
 pub bounds-right-entry : goal.bounds-right-entry
 bounds-right-entry c = (next_entry 0 (length c.args.right.now) c.args.entries.now c.loop-entry.entry-index no_entry c.requires c.loop-entry-test.true).below

@@ -1,7 +1,7 @@
 use Rattle.std.proofs.Common.{sym, FitsSigned, rules}
 use Rattle.std.specs.Int.{w128}
 use Rattle.bl_factor.proofs.Numbers.{is_nought-true, is_nought-yes, quotient-nought}
-use Rattle.bl_factor.proofs.eta.quotient.Goals as goal
+use Rattle.bl_factor.proofs.division.quotient.Goals as goal
 
 pub returns-then-number-eq0 : goal.returns-then-number-eq0
 returns-then-number-eq0 c =

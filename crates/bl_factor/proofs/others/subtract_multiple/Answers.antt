@@ -8,7 +8,7 @@ use Rattle.bl_factor.specs.Sparse.{IsSparse, value_at}
 use Rattle.bl_factor.specs.Elimination.{less_multiple}
 use Rattle.bl_factor.proofs.Columns.{is_column_of}
 use Rattle.bl_factor.proofs.SparseLemmas.{no_entry, next_entry, IsLess, IsLess-none, IsLess-more}
-use Rattle.bl_factor.proofs.eta.subtract_multiple.Goals as goal
+use Rattle.bl_factor.proofs.others.subtract_multiple.Goals as goal
 
 pub bounds-right-entry : goal.bounds-right-entry
 bounds-right-entry c =
