@@ -1,4 +1,5 @@
 pub mod Nothing
+pub mod Widths
 pub mod Putting
 pub mod Tidying
 pub mod Turns

@@ -89,9 +89,9 @@ halved_sound p d form cutoff low o w below h =
         meets = λ x q. tt;
         cuts_suit = λ k e i. absurd (omega (arith, i));
         cuts_valid = λ k e i. absurd (omega (arith, i));
-        column_in = h.column_in;
-        low_at_most = h.low_at_most;
-        below_high = h.below_high;
+        column_in = h.widest.inside;
+        low_at_most = omega (arith, ints, h.widest.wide, h.middle.not_below);
+        below_high = omega (arith, ints, h.widest.wide, h.middle.not_above);
       };
     }
 

@@ -1,5 +1,5 @@
 -- What the work on a node hands in.
-use Rattle.std.specs.Prelude.{◌≡◌, ◌≢◌, ◌⊎◌, ℕ, ◌<◌, ◌≤◌, ◌^◌, ℤ, ◌≤ℤ◌, ◌<ℤ◌, List, [], length, All, AllPairs, Option, Some, None, true}
+use Rattle.std.specs.Prelude.{◌≡◌, ◌≢◌, ◌⊎◌, ℕ, ◌<◌, ◌≤◌, ◌^◌, ℤ, pos, ◌+ℤ◌, ◌-ℤ◌, ◌≤ℤ◌, ◌<ℤ◌, List, [], length, All, AllPairs, Option, Some, None, true}
 use Rattle.bl_num.specs.Exact.{at}
 use Rattle.bl_problem.specs.Sums.{IsWithin}
 use Rattle.bl_problem.specs.Program.{Program}
@@ -29,10 +29,26 @@ pub record IsHalvable (d : Desc Cut) : Type 0 where
   pub ids : AllPairs (λ a b. a.id ≢ b.id) d.cuts
   pub point : has_point d.lows d.highs ≡ true
 
--- a column that has more than one value, or none where no column has
-abbrev pub IsWidest : List ℤ → List ℤ → Option ℕ → Type 0
-IsWidest lows highs (Some j) = (j < length lows) × (at lows j <ℤ at highs j)
-IsWidest lows highs None = (j : ℕ) → j < length lows → at highs j ≤ℤ at lows j
+-- how far a column's high is above its low
+abbrev pub width_at : List ℤ → List ℤ → ℕ → ℤ
+width_at lows highs j = at highs j -ℤ at lows j
+
+-- of the first n columns the widest one, which has more than one value; of equally wide ones the first
+pub record IsFirstWidest (lows highs : List ℤ) (n j : ℕ) : Type 0 where
+  pub inside : j < n
+  pub wide : at lows j <ℤ at highs j
+  pub before : (k : ℕ) → k < j → width_at lows highs k <ℤ width_at lows highs j
+  pub behind : (k : ℕ) → k < n → width_at lows highs k ≤ℤ width_at lows highs j
+
+-- the first widest of the first n columns, or none where none of them has more than one value
+abbrev pub IsWidest : List ℤ → List ℤ → ℕ → Option ℕ → Type 0
+IsWidest lows highs n (Some j) = IsFirstWidest lows highs n j
+IsWidest lows highs n None = (j : ℕ) → j < n → at highs j ≤ℤ at lows j
+
+-- the middle of two numbers, rounded down
+pub record IsMiddle (low high middle : ℤ) : Type 0 where
+  pub not_above : (middle +ℤ middle) ≤ℤ (low +ℤ high)
+  pub not_below : (low +ℤ high) ≤ℤ (middle +ℤ middle +ℤ pos 1)
 
 -- the same cuts and statuses with a box of as many columns
 pub record HasOtherBox (d half : Desc Cut) : Type 0 where
@@ -43,13 +59,12 @@ pub record HasOtherBox (d half : Desc Cut) : Type 0 where
   pub rows : half.row_status ≡ d.row_status
   pub cut_status : half.cut_status ≡ d.cut_status
 
--- the box is halved at a number between a column's low and its high, and the halves have this form
+-- the box is halved at the middle of its first widest column, and the halves have this form
 pub record IsHalved (d : Desc Cut) (form : Form) (low : ℤ) (o : Outcome) : Type 0 where
   pub column : ℕ
   pub at_most : ℤ
-  pub column_in : column < length d.lows
-  pub low_at_most : at d.lows column ≤ℤ at_most
-  pub below_high : at_most <ℤ at d.highs column
+  pub widest : IsFirstWidest d.lows d.highs (length d.lows) column
+  pub middle : IsMiddle (at d.lows column) (at d.highs column) at_most
   pub found : o.found ≡ None
   pub low_is : o.low ≡ low
   pub next : o.next ≡ Split nothing column at_most (piece_below d form (left_child d column at_most)) (piece_below d form (right_child d column at_most))

@@ -1,9 +1,9 @@
 //! The work on one node: its box is halved, until it has one point, which is tested.
-ghost use Rattle.std.specs.Prelude.{◌≡◌, ◌<◌, ◌≤◌, ◌^◌, ◌≤ℤ◌, ◌<ℤ◌, ℕ, length, All, IfOk, IfSome, None};
+ghost use Rattle.std.specs.Prelude.{◌≡◌, ◌<◌, ◌+◌, ◌^◌, ◌<ℤ◌, length, All, IfOk};
 ghost use Rattle.bl_num.specs.Exact.{at};
 ghost use Rattle.bl_problem.specs.Sums.{IsWithin};
 ghost use Rattle.bl_problem.specs.Points.{trivial_bound_of};
-ghost use Rattle.bl_run.specs.Work.{IsWork, IsHalved, IsTested, IsHalvable, HasOtherBox, IsWidest, IsBelow, nothing};
+ghost use Rattle.bl_run.specs.Work.{IsWork, IsHalved, IsTested, IsHalvable, HasOtherBox, IsFirstWidest, IsWidest, IsMiddle, IsBelow, nothing};
 ghost use Rattle.bl_journal.specs.Descriptions.{left_child, right_child};
 ghost use Rattle.bl_journal.specs.Pieces.{piece_below};
 
@@ -13,15 +13,14 @@ use bl_mods::{FieldMods, ListMods, Shared};
 use bl_problem::{Cut, Problem};
 use std::alloc::{AllocError, Global};
 
-// The wider of two columns, the earlier one of those that are equally wide; a column that has one value is none.
+// The first widest of the columns up to j: the one before it, or j itself where that is wider; a column that has one value is none.
 fn wider(lows: &[i64], highs: &[i64], widest: Option<usize>, j: usize) -> Option<usize>
     requires here { j < length lows.now }
     requires there { j < length highs.now }
     requires low_near { All (IsWithin (10 ^ 9)) lows.now }
     requires high_near { All (IsWithin (10 ^ 9)) highs.now }
-    requires earlier { IfSome widest (λ k. (k < j) × (at lows.now k <ℤ at highs.now k)) }
-    ensures wide { IfSome result (λ k. (k ≤ j) × (at lows.now k <ℤ at highs.now k)) }
-    ensures none { result ≡ None → (widest ≡ None) × (at highs.now j ≤ℤ at lows.now j) }
+    requires earlier { IsWidest lows.now highs.now j widest }
+    ensures { IsWidest lows.now highs.now (j + 1) result }
 {
     let width = highs[j] - lows[j];
     match widest {
@@ -36,12 +35,12 @@ fn wider(lows: &[i64], highs: &[i64], widest: Option<usize>, j: usize) -> Option
     }
 }
 
-// A column that has more than one value: the first of the greatest width.
+// The first of the widest columns. None where none has more than one value.
 fn widest(lows: &[i64], highs: &[i64]) -> Option<usize>
     requires same { length highs.now ≡ length lows.now }
     requires low_near { All (IsWithin (10 ^ 9)) lows.now }
     requires high_near { All (IsWithin (10 ^ 9)) highs.now }
-    ensures { IsWidest lows.now highs.now result }
+    ensures { IsWidest lows.now highs.now (length lows.now) result }
 {
     let mut widest: Option<usize> = None;
     for j in 0..lows.len() {
@@ -55,8 +54,7 @@ fn middle(low: i64, high: i64) -> i64
     requires low { IsWithin (10 ^ 9) low }
     requires high { IsWithin (10 ^ 9) high }
     requires apart { low <ℤ high }
-    ensures above { low ≤ℤ result }
-    ensures below { result <ℤ high }
+    ensures { IsMiddle low high result }
 {
     low + (high - low) / 2
 }
@@ -125,8 +123,7 @@ fn halve(
     column: usize,
 ) -> Result<Outcome, AllocError>
     requires halvable { IsHalvable desc.now }
-    requires column { column < length desc.now.lows }
-    requires wide { at desc.now.lows column <ℤ at desc.now.highs column }
+    requires widest { IsFirstWidest desc.now.lows desc.now.highs (length desc.now.lows) column }
     ensures { IfOk result (λ outcome. IsHalved desc.now form low outcome) }
 {
     let lows = desc.lows.as_slice();

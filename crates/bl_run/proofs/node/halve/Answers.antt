@@ -25,9 +25,8 @@ returns c =
     record {
       column = c.args.column;
       at_most = c.middle-at.result;
-      column_in = c.requires.column;
-      low_at_most = search rules;
-      below_high = search rules;
+      widest = c.requires.widest;
+      middle = search rules;
       found = refl;
       low_is = to_z-of_z w128 c.args.low g;
       next = ap (λ z. split c.in_ok-common.common z c.in_ok-left.left c.in_ok-right.right) at ∙ (ap (λ common. split common c.middle-at.result c.in_ok-left.left c.in_ok-right.right) common
