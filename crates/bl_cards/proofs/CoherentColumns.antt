@@ -1,11 +1,12 @@
 -- Every line of COLUMNS keeps what holds of the section.
-use Rattle.std.proofs.Common.{Ok, Err, ◌≡◌, ◌≢◌, ℕ, zero, suc, ◌+◌, ◌-◌, ◌<◌, inl, inr, Bool, true, false, cond, not, ◌&&◌, ◌||◌, List, [], ◌∷◌, ◌++◌, length, get_or, Option, Some, None, All, refl, arith}
+use Rattle.std.proofs.Common.{Ok, Err, ◌≡◌, ◌≢◌, ℕ, zero, suc, ◌+◌, ◌-◌, ◌<◌, inl, inr, Bool, true, false, cond, not, ◌&&◌, List, [], ◌∷◌, ◌++◌, length, get_or, Option, Some, None, All, refl, arith}
 use Rattle.std.specs.Prelude.{nat_le, ◌==◌, codes}
 use Rattle.std.specs.List.{list_any}
 use Rattle.std.proofs.lemmas.List.{length-append}
 use Rattle.std.proofs.lemmas.List.Elements.{All-push}
 use Rattle.std.proofs.lemmas.List.Quantifiers.{all_pairs_push}
 use Rattle.std.proofs.lemmas.Bool.Decides.{nat_tests}
+use Rattle.std.proofs.lemmas.Bool.{or_parts}
 use Rattle.bl_num.specs.declared.Decimal.{Decimal}
 use Rattle.bl_problem.specs.Program.{IsName}
 use Rattle.bl_cards.specs.declared.kind.What.TheVariants as what
@@ -45,14 +46,10 @@ start_by g new name (Some place) h n p e =
     let l = place_within g.names name place p in
     rw (← is) (record { columns = h; some = omega (arith, l) })
 
-neither : (a b : Bool) → (a || b) ≡ false → (a ≡ false) × (b ≡ false)
-neither true b e = absurd cc
-neither false b e = (refl, e)
-
 none_any : {A : Type 0} (p : A → Bool) (xs : List A) (k : ℕ) (d : A) → list_any p xs ≡ false → k < length xs → p (get_or xs k d) ≡ false
 none_any p [] k d e l = absurd (omega arith)
-none_any p (x ∷ xs) zero d e l = (neither (p x) (list_any p xs) e).0
-none_any p (x ∷ xs) (suc k) d e l = none_any p xs k d (neither (p x) (list_any p xs) e).1 (omega arith)
+none_any p (x ∷ xs) zero d e l = (or_parts (p x) (list_any p xs) e).0
+none_any p (x ∷ xs) (suc k) d e l = none_any p xs k d (or_parts (p x) (list_any p xs) e).1 (omega arith)
 
 -- the new number comes behind each other one
 behind : (t : Bool) (d c : Cell) (n : ℕ) → (d.column == c.column) ≡ t → d.column < n → c.column + 1 ≡ n → (t && same c.row d.row) ≡ false → IsBefore d c

@@ -1,5 +1,5 @@
 -- A file's lines keep what holds of everything that it says.
-use Rattle.std.proofs.Common.{Result, Ok, Err, ◌≡◌, ◌≢◌, ℕ, suc, ◌+◌, Bool, true, false, cond, not, List, [], ◌∷◌, ◌++◌, length, get_or, All, refl, sym, ap, ◌∙◌, arith, pos, ℤ}
+use Rattle.std.proofs.Common.{Ok, ◌≡◌, ◌≢◌, ℕ, suc, ◌+◌, Bool, true, false, cond, not, List, [], ◌∷◌, ◌++◌, length, get_or, All, refl, sym, ap, ◌∙◌, arith, pos, ℤ}
 use Rattle.std.specs.Prelude.{◌==◌}
 use Rattle.std.proofs.lemmas.List.Elements.{All-push}
 use Rattle.bl_text.specs.Pieces.{is_blank, lines_of, words_of, HasNoLineFeed}
@@ -7,19 +7,18 @@ use Rattle.bl_text.proofs.Bytes.{words_of-no_blank, words_of-no_line_feed, words
 use Rattle.bl_num.specs.declared.Decimal.{Decimal}
 use Rattle.bl_problem.specs.Program.{IsName, IsVisible}
 use Rattle.bl_cards.specs.declared.kind.Act.{Act}
-use Rattle.bl_cards.specs.declared.kind.What.{What}
 use Rattle.bl_cards.specs.declared.kind.What.TheVariants as what
 use Rattle.bl_cards.specs.declared.kind.Section.{Section}
 use Rattle.bl_cards.specs.declared.kind.Section.TheVariants.{Start, Name, Rows, Columns, Rhs, Ranges, Bounds, End}
-use Rattle.bl_cards.specs.Said.{Given, Card, RowLine, SetOf, Said, nothing_said, place_of, ◌>>=◌, refuse, there_or}
+use Rattle.bl_cards.specs.Said.{Given, Card, RowLine, SetOf, Said, nothing_said, place_of, refuse, there_or}
 use Rattle.bl_cards.specs.Lines.{role_of, number_at, is_passed, is_first_set, with_set, has_given, add_given, given, given_two, given_line, act_of, has_number, bound_at, add_card, number_card, plain_card, number_words, plain_words, bounds_line, rows_line, columns_line, data_line, section_of, may_follow, section_line}
 use Rattle.bl_cards.specs.declared.reader.Whole.{Whole}
-use Rattle.bl_cards.specs.Reading.{Fault, spoken, after_line, is_end, at_line, said_from}
+use Rattle.bl_cards.specs.Reading.{spoken, after_line, is_end, said_from}
 use Rattle.bl_cards.specs.Coherence.{IsRead, IsSmall, IsGiven, IsCard, IsCoherent}
 use Rattle.bl_cards.proofs.NumbersRead.{number_read, bound_small}
 use Rattle.bl_cards.proofs.Coherent.{went, rows_kept}
 use Rattle.bl_cards.proofs.CoherentColumns.{columns_kept}
-use Rattle.bl_cards.proofs.Walks.{whole, said_done, said_open, said_step}
+use Rattle.bl_cards.proofs.Walks.{whole, said_done, said_open, said_step, taken}
 
 -- ---- RHS and RANGES
 
@@ -183,16 +182,6 @@ line_kept : (s new : Said) (line : List ℕ) → IsCoherent s → HasNoLineFeed 
 unfolding after_line
 line_kept s new [] h f e = let is : s ≡ new = cc in rw (← is) h
 line_kept s new (b ∷ bytes) h f e = line_by (b == 42) s new b bytes h f e
-
--- a line that was taken
-record Taken (n : ℕ) (r : Result Said What) (f : Said → Result Whole Fault) (w : Whole) : Type 0 where
-  pub x : Said
-  pub is : r ≡ Ok x
-  pub then : f x ≡ Ok w
-
-taken : (n : ℕ) (r : Result Said What) (f : Said → Result Whole Fault) (w : Whole) → (at_line n r >>= f) ≡ Ok w → Taken n r f w
-taken n (Ok x) f w e = record { x = x; is = refl; then = e }
-taken n (Err v) f w e = absurd cc
 
 lines_kept : (n : ℕ) (s : Said) (w : Whole) (lines : List (List ℕ)) → IsCoherent s → All HasNoLineFeed lines → said_from n s lines ≡ Ok w → IsCoherent w.said
 lines_kept n s w [] h f e = by (is_end s.section) refl

@@ -2,6 +2,7 @@
 use Rattle.std.proofs.Common.{◌≡◌, ℕ, suc, Bool, true, false, cond, List, [], ◌∷◌, ◌++◌, map, get_or, Option, Some, None, refl, sym, ap}
 use Rattle.std.specs.Prelude.{option_map}
 use Rattle.std.specs.Cmp.Lexicographic.{bytes_decides}
+use Rattle.std.proofs.lemmas.Bool.{false_from_ne_true}
 use Rattle.bl_cards.specs.Said.{same, place_of, Differ}
 
 -- texts that are the same are equal
@@ -11,12 +12,12 @@ same_is a b e = (bytes_decides a b).0 e
 pub same_self : (a : List ℕ) → same a a ≡ true
 same_self a = (bytes_decides a a).1 refl
 
-none_by : (t : Bool) (o : Option ℕ) → cond t (Some 0) (option_map suc o) ≡ None → (t ≡ false) × (o ≡ None)
+pub none_by : (t : Bool) (o : Option ℕ) → cond t (Some 0) (option_map suc o) ≡ None → (t ≡ false) × (o ≡ None)
 none_by true o e = absurd cc
 none_by false None e = (refl, refl)
 none_by false (Some i) e = absurd cc
 
-some_by : (t : Bool) (o : Option ℕ) (i : ℕ) → cond t (Some 0) (option_map suc o) ≡ Some i → (t ≡ false) → (k : ℕ) × (o ≡ Some k) × (i ≡ suc k)
+pub some_by : (t : Bool) (o : Option ℕ) (i : ℕ) → cond t (Some 0) (option_map suc o) ≡ Some i → (t ≡ false) → (k : ℕ) × (o ≡ Some k) × (i ≡ suc k)
 some_by true o i e f = absurd cc
 some_by false None i e f = absurd cc
 some_by false (Some k) i e f = (k, refl, cc)
@@ -36,12 +37,8 @@ read_at {A = A} (n ∷ names) name i f d e = by (same name n) refl (λ k p. read
 
 -- ---- names that differ, and one more
 
-false_both : (t : Bool) → (t ≡ true → ⊥) → t ≡ false
-false_both true h = absurd (h refl)
-false_both false h = refl
-
 pub same_turned : (a b : List ℕ) → same a b ≡ false → same b a ≡ false
-same_turned a b e = false_both (same b a) (λ t. let h = (bytes_decides a b).1 (sym (same_is b a t)) in absurd cc)
+same_turned a b e = false_from_ne_true (same b a) (λ t. let h = (bytes_decides a b).1 (sym (same_is b a t)) in absurd cc)
 
 absent_push : (names : List (List ℕ)) (m n : List ℕ) → place_of names m ≡ None → same m n ≡ false → place_of (names ++ n ∷ []) m ≡ None
 absent_push [] m n e h = rw h refl

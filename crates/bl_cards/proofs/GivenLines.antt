@@ -5,11 +5,7 @@ use Rattle.bl_num.specs.declared.Decimal.{Decimal}
 use Rattle.bl_cards.specs.Said.{same, place_of, Given}
 use Rattle.bl_cards.specs.Lines.{has_given, given_for}
 use Rattle.bl_cards.specs.Views.{given_lines}
-
-place_more : (t : Bool) (o : Option ℕ) → is_some (cond t (Some 0) (option_map suc o)) ≡ (t || is_some o)
-place_more true o = refl
-place_more false None = refl
-place_more false (Some n) = refl
+use Rattle.bl_cards.proofs.Places.{place_more}
 
 pub given_is : (rows : List (List ℕ)) (numbers : List Decimal) (row : List ℕ) → length numbers ≡ length rows → has_given (given_lines rows numbers) row ≡ is_some (place_of rows row)
 given_is [] numbers row e = refl

@@ -1,20 +1,13 @@
 -- The rows of the last column, by name.
-use Rattle.std.proofs.Common.{Ok, Err, ◌≡◌, ℕ, suc, ◌-◌, ◌<◌, Bool, true, false, cond, ◌&&◌, ◌||◌, List, [], ◌∷◌, ◌++◌, map, length, All, Option, Some, None, refl, sym, ap, ◌∙◌, arith}
-use Rattle.std.specs.Prelude.{option_map, is_some, filter, ◌==◌}
+use Rattle.std.proofs.Common.{Ok, Err, ◌≡◌, ℕ, suc, ◌-◌, ◌<◌, Bool, true, false, cond, ◌&&◌, ◌||◌, List, [], ◌∷◌, ◌++◌, map, length, All, refl, sym, ap, ◌∙◌, arith}
+use Rattle.std.specs.Prelude.{is_some, filter, ◌==◌}
 use Rattle.std.proofs.lemmas.Bool.Decides.{nat_tests}
 use Rattle.bl_num.specs.declared.Decimal.{Decimal}
 use Rattle.bl_cards.specs.declared.kind.What.TheVariants as what
 use Rattle.bl_cards.specs.Said.{same, place_of, Cell, Grid}
 use Rattle.bl_cards.specs.Lines.{has_cell, add_cell}
 use Rattle.bl_cards.specs.Views.{rows_in}
-
-some_later : (o : Option ℕ) → is_some (option_map suc o) ≡ is_some o
-some_later None = refl
-some_later (Some n) = refl
-
-place_more : (t : Bool) (o : Option ℕ) → is_some (cond t (Some 0) (option_map suc o)) ≡ (t || is_some o)
-place_more true o = refl
-place_more false o = some_later o
+use Rattle.bl_cards.proofs.Places.{place_more}
 
 more : (t : Bool) (c : Cell) (row : List ℕ) (rows : List (List ℕ)) (h : Bool) → h ≡ is_some (place_of rows row) → ((t && same row c.row) || h) ≡ is_some (place_of (cond t (c.row ∷ rows) rows) row)
 more true c row rows h e = ap (λ (b : Bool). same row c.row || b) e ∙ sym (place_more (same row c.row) (place_of rows row))

@@ -1,6 +1,6 @@
 -- Names that are found by a hash are found in their list.
 use Rattle.std.proofs.Common.{◌≡◌, ℕ, suc, ◌+◌, ◌<◌, Bool, true, false, cond, not, ◌||◌, ltb, List, [], ◌∷◌, ◌++◌, map, length, Option, Some, None, refl, ap, ◌∙◌, arith}
-use Rattle.std.specs.Prelude.{option_map, position, IfSome}
+use Rattle.std.specs.Prelude.{option_map, is_some, position, IfSome}
 use Rattle.std.specs.List.{position_or_len, list_any}
 use Rattle.std.proofs.lemmas.Bool.Decides.{nat_tests}
 use Rattle.std.proofs.lemmas.List.{map-append}
@@ -39,6 +39,11 @@ absent bytes (k ∷ keys) name e = absent_by (same name (bytes k)) (place_of (ma
 
 pub map_push : {A B : Type 0} (f : A → B) (xs : List A) (x : A) → map f (xs ++ x ∷ []) ≡ map f xs ++ f x ∷ []
 map_push f xs x = map-append f xs (x ∷ [])
+
+pub place_more : (t : Bool) (o : Option ℕ) → is_some (cond t (Some 0) (option_map suc o)) ≡ (t || is_some o)
+place_more true o = refl
+place_more false None = refl
+place_more false (Some n) = refl
 
 -- a place is one of the list's
 place_by : (t : Bool) (o : Option ℕ) (n p : ℕ) → ((i : ℕ) → o ≡ Some i → i < n) → cond t (Some 0) (option_map suc o) ≡ Some p → p < suc n

@@ -1,6 +1,7 @@
 -- Rows kept as names and roles.
 use Rattle.std.proofs.Common.{◌≡◌, ℕ, zero, suc, ◌+◌, ◌<◌, Bool, true, false, cond, ◌||◌, List, [], ◌∷◌, ◌++◌, map, length, take, get_or, Option, Some, None, refl, sym, ap, ◌∙◌, arith}
 use Rattle.std.specs.Prelude.{option_map}
+use Rattle.std.proofs.lemmas.Bool.{or_parts}
 use Rattle.bl_cards.specs.declared.kind.Role.{Role}
 use Rattle.bl_cards.specs.Said.{same, place_of, RowLine}
 use Rattle.std.proofs.lemmas.List.{length-append, take_more}
@@ -82,16 +83,12 @@ kept_push names names' roles roles' n r limited more had now k f g m o =
       objective_is = rw (e, objective_pushed (row_lines names roles) (row n r), o) (ap (λ (b : Bool). b || is_objective r) k.objective_is);
     }
 
-neither : (a b : Bool) → (a || b) ≡ false → (a ≡ false) × (b ≡ false)
-neither true b e = absurd cc
-neither false b e = (refl, e)
-
 -- the first objective among the rows
 pub objective_at : (rows : List RowLine) (i : ℕ) (d : RowLine) → i < length rows → has_objective (take i rows) ≡ false → is_objective (get_or rows i d).role ≡ true → ((get_or rows i d).name ≡ objective_in rows) × (has_objective rows ≡ true)
 objective_at [] i d l e f = absurd (omega arith)
 objective_at (r ∷ rows) zero d l e f = rw f (refl, refl)
 objective_at (r ∷ rows) (suc i) d l e f =
-    let n = neither (is_objective r.role) (has_objective (take i rows)) e in
+    let n = or_parts (is_objective r.role) (has_objective (take i rows)) e in
     let t = n.0 in
     rw t (objective_at rows i d (omega arith) n.1 f)
 

@@ -1,19 +1,20 @@
 -- A file is read section by section.
-use Rattle.std.proofs.Common.{◌≡◌, ℕ, ◌+◌, ◌<◌, Bool, true, false, cond, not, ◌&&◌, List, [], ◌∷◌, ◌++◌, map, Result, Ok, Err, refl, sym, ap, ◌∙◌, arith}
+use Rattle.std.proofs.Common.{◌≡◌, ℕ, ◌+◌, ◌<◌, Bool, true, false, cond, not, ◌&&◌, List, [], ◌∷◌, ◌++◌, map, Result, Ok, refl, sym, ap, ◌∙◌, arith}
 use Rattle.std.specs.Prelude.{◌==◌, nat_lt, nat_le, is_none, codes}
 use Rattle.std.proofs.lemmas.List.{map-append, append-nil, append_assoc}
 use Rattle.std.proofs.lemmas.Bool.Decides.{nat_tests}
+use Rattle.std.proofs.lemmas.Bool.{and_parts, not-false}
 use Rattle.bl_text.specs.Pieces.{is_blank, words_of, lines_of}
 use Rattle.bl_cards.specs.declared.kind.Section.{Section}
 use Rattle.bl_cards.specs.declared.kind.Section.TheVariants.{Start, Name, Rows, Columns, Rhs, Ranges, Bounds, End}
 use Rattle.bl_cards.specs.declared.kind.What.{What}
 use Rattle.bl_cards.specs.declared.kind.What.TheVariants as what
-use Rattle.bl_cards.specs.Said.{same, Said, RowLine, Grid, nothing_said, refuse, there_or, ◌>>=◌}
+use Rattle.bl_cards.specs.Said.{same, Said, RowLine, Grid, nothing_said, refuse, there_or}
 use Rattle.bl_cards.specs.Lines.{role_for, role_of, has_objective, is_limited, count_limited, add_row, rows_line, columns_line, given_line, bounds_line, data_line, section_of, rank, may_follow, section_line}
 use Rattle.bl_cards.specs.declared.reader.Whole.{Whole}
-use Rattle.bl_cards.specs.Reading.{Fault, spoken, after_line, is_end, at_line, said_from, said_in}
+use Rattle.bl_cards.specs.Reading.{spoken, after_line, is_end, said_from, said_in}
 use Rattle.bl_cards.specs.Sections.{DataLine, is_data, words_said, named_or, section_behind, data_of, data_lines, lines_in, in_section, in_turn, second_word, IsReadBySections}
-use Rattle.bl_cards.proofs.Walks.{whole, said_done, said_open, said_step}
+use Rattle.bl_cards.proofs.Walks.{whole, said_done, said_open, said_step, taken}
 use Rattle.bl_cards.proofs.Coherent.{went, passed, there}
 
 -- from one state to a later one, by data lines
@@ -112,14 +113,6 @@ data_goes Bounds s u t words ls n e g =
     }
 data_goes End s u t words ls n e g = absurd cc
 
-both : (a b : Bool) → (a && b) ≡ true → (a ≡ true) × (b ≡ true)
-both true b e = (refl, e)
-both false b e = absurd cc
-
-turned : (b : Bool) → not b ≡ false → b ≡ true
-turned true e = refl
-turned false e = absurd cc
-
 -- a section line opens a later section
 section_goes : (s u t : Said) (word : List ℕ) (ls : List DataLine) → section_line s word ≡ Ok u → Goes u ls t → Goes s ls t × (u.section ≡ named_or s.section (section_of word))
 section_goes s u t word ls e g =
@@ -128,8 +121,8 @@ section_goes s u t word ls e g =
     let found = there what.Section (section_of word) a.x a.is in
     let is : record s { section = a.x } ≡ u = cc in
     let h : Goes (record s { section = a.x }) ls t = rw is g in
-    let follows = turned (may_follow s.section a.x) (passed (not (may_follow s.section a.x)) what.Section b.x b.is) in
-    let later : rank s.section < rank a.x = let c = both (nat_lt (rank s.section) (rank a.x)) _ follows in let d = c.0 in grind (arith, nat_tests) in (
+    let follows = not-false (may_follow s.section a.x) (passed (not (may_follow s.section a.x)) what.Section b.x b.is) in
+    let later : rank s.section < rank a.x = let c = and_parts (nat_lt (rank s.section) (rank a.x)) _ follows in let d = c.0 in grind (arith, nat_tests) in (
       record {
         rows = h.rows;
         columns = h.columns;
@@ -173,16 +166,6 @@ line_goes s u t (b ∷ bytes) ls e g = by (b == 42) e g
     by : (c : Bool) → cond c (Ok s) (spoken s (is_blank b) (words_of (b ∷ bytes))) ≡ Ok u → (u.section ≡ section_behind s.section (is_blank b) (cond c [] (words_of (b ∷ bytes))) → Goes u ls t) → Goes s (data_of s.section (is_blank b) (cond c [] (words_of (b ∷ bytes))) ++ ls) t
     by true e g = spoken_goes s u t (is_blank b) [] ls e g
     by false e g = spoken_goes s u t (is_blank b) (words_of (b ∷ bytes)) ls e g
-
--- a line that was taken
-record Taken (n : ℕ) (r : Result Said What) (f : Said → Result Whole Fault) (w : Whole) : Type 0 where
-  pub x : Said
-  pub is : r ≡ Ok x
-  pub then : f x ≡ Ok w
-
-taken : (n : ℕ) (r : Result Said What) (f : Said → Result Whole Fault) (w : Whole) → (at_line n r >>= f) ≡ Ok w → Taken n r f w
-taken n (Ok x) f w e = record { x = x; is = refl; then = e }
-taken n (Err v) f w e = absurd cc
 
 lines_go : (n : ℕ) (s : Said) (w : Whole) (lines : List (List ℕ)) → said_from n s lines ≡ Ok w → Goes s (data_lines s.section lines) w.said
 lines_go n s w [] e = by (is_end s.section) refl

@@ -1,3 +1,4 @@
 pub mod Canonical
 pub mod Fewest
 pub mod Ranges
+pub mod Nothing

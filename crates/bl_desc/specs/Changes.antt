@@ -1,5 +1,5 @@
 -- What a change makes of a description, and the canonical difference of two.
-use Rattle.std.specs.Prelude.{◌≡◌, ℕ, ◌<◌, Bool, true, false, List, ◌++◌, length, replicate, All}
+use Rattle.std.specs.Prelude.{◌≡◌, ℕ, ◌<◌, Bool, true, false, List, [], ◌++◌, length, replicate, All}
 use Rattle.std.specs.Ordering.{int_eq}
 use Rattle.bl_mods.specs.declared.mods.Mod.{Mod}
 use Rattle.bl_mods.specs.declared.mods.ListMods.{ListMods}
@@ -16,6 +16,10 @@ pub record IsWhole {C : Type 0} (d : Desc C) : Type 0 where
   pub highs : length d.highs ≡ length d.lows
   pub columns : length d.column_status ≡ length d.lows
   pub cuts : length d.cut_status ≡ length d.cuts
+
+-- the change of nothing
+abbrev pub nothing : {C : Type 0} → Change C
+nothing = record { lows = []; highs = []; cuts = record { dropped = []; added = [] }; columns = []; rows = []; fresh = [] }
 
 -- the statuses of the cuts after some are dropped and others added
 abbrev pub cut_status_after : {C : Type 0} → ListMods C → List Status → List Status

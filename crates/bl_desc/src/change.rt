@@ -19,6 +19,26 @@ pub struct Change<C> {
     pub fresh: FieldMods<Status>,
 }
 
+impl<C: Drop> Change<C> {
+    ghost use Rattle.bl_desc.specs.Changes.{changed, nothing};
+    ghost use Rattle.bl_desc.specs.declared.desc.Desc.{Desc as AnyDesc};
+
+    /// The change of nothing. Takes no memory.
+    pub fn new(alloc: Global) -> Change<C>
+        ensures nothing { result ≡ nothing }
+        ensures unchanged { (d : AnyDesc C) → changed result d ≡ d }
+    {
+        Change {
+            lows: FieldMods::new(alloc),
+            highs: FieldMods::new(alloc),
+            cuts: ListMods::new(alloc),
+            columns: FieldMods::new(alloc),
+            rows: FieldMods::new(alloc),
+            fresh: FieldMods::new(alloc),
+        }
+    }
+}
+
 /// Sets the bounds, drops cuts with their statuses, adds cuts at the end with status `AtLow`, then sets the statuses. `AllocError` where there is no memory; the description is then as it was.
 pub fn apply<C: Drop>(change: &Change<C>, desc: &mut Desc<C>) -> Result<(), AllocError>
     requires whole { IsWhole desc.old }

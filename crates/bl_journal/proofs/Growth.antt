@@ -9,6 +9,10 @@ use Rattle.bl_journal.specs.declared.entry.Step.TheVariants.{Shut, Split}
 use Rattle.bl_journal.specs.Births.{Node, nodes_of, node_at, grown, root_node}
 use Rattle.bl_journal.specs.Descriptions.{full_of, full_along}
 
+-- read backward, the last entry comes first
+pub reverse-push : (history : List Entry) (e : Entry) → reverse (history ++ e ∷ []) ≡ e ∷ reverse history
+reverse-push history e = reverse-append history (e ∷ [])
+
 -- nodes are added at the end
 pub grown-extends : (p : Program) (nodes : List Node) (e : Entry) → (new : List Node) × (grown p nodes e ≡ nodes ++ new)
 grown-extends p nodes (Put seat id found low Shut) = ([], sym (append-nil nodes))

@@ -17,3 +17,4 @@ pub mod Births
 pub mod Ends
 pub mod Newborns
 pub mod Upkeep
+pub mod Nothing

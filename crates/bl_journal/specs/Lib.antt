@@ -10,3 +10,4 @@ pub mod Legality
 pub mod Results
 pub mod Laws
 pub mod Tidying
+pub mod Covering

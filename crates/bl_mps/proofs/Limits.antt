@@ -4,6 +4,7 @@ use Rattle.std.specs.Prelude.{nat_abs, nat_le}
 use Rattle.std.specs.List.{list_all}
 use Rattle.std.proofs.lemmas.Int.{ints}
 use Rattle.std.proofs.lemmas.Bool.Decides.{nat_tests}
+use Rattle.std.proofs.lemmas.Bool.{and_parts}
 use Rattle.std.proofs.lemmas.List.{length-map, get_or-map}
 use Rattle.std.proofs.lemmas.List.Folds.{list_all_at}
 use Rattle.bl_problem.specs.declared.problem.Term.{Term}
@@ -18,10 +19,6 @@ use Rattle.bl_cards.specs.declared.kind.Role.TheVariants.{Objective, Extra, AtMo
 use Rattle.bl_cards.specs.Lines.{is_limited}
 use Rattle.bl_mps.specs.Meaning.{low_end, high_end, ends_of, is_within, term_of, terms_of, term_within, end_within, limited}
 use Rattle.bl_mps.specs.Views.{ends_within}
-
-pub both : (a b : Bool) → (a && b) ≡ true → (a ≡ true) × (b ≡ true)
-both true b e = (refl, e)
-both false b e = absurd cc
 
 -- ---- what is kept, and what is too wide
 
@@ -74,10 +71,10 @@ above : (b : ℤ) (k : ℕ) → b ≤ℤ (b +ℤ pos k)
 above b k = omega (arith, ints)
 
 two_ends : (a b : ℤ) → (is_within (10 ^ 24) a && is_within (10 ^ 24) b) ≡ true → a ≤ℤ b → AreEnds (Some a) (Some b)
-two_ends a b e l = let t = both (is_within (10 ^ 24) a) (is_within (10 ^ 24) b) e in (within_is (10 ^ 24) a t.0, within_is (10 ^ 24) b t.1, l)
+two_ends a b e l = let t = and_parts (is_within (10 ^ 24) a) (is_within (10 ^ 24) b) e in (within_is (10 ^ 24) a t.0, within_is (10 ^ 24) b t.1, l)
 
 one_end : (b : ℤ) (t : Bool) → (is_within (10 ^ 24) b && t) ≡ true → IsWithin (10 ^ 24) b
-one_end b t e = within_is (10 ^ 24) b (both (is_within (10 ^ 24) b) t e).0
+one_end b t e = within_is (10 ^ 24) b (and_parts (is_within (10 ^ 24) b) t e).0
 
 pub ends_are : (role : Role) (b : ℤ) (r : Option ℤ) → is_limited role ≡ true → (end_within (low_end role b r) && end_within (high_end role b r)) ≡ true → AreEnds (low_end role b r) (high_end role b r)
 ends_are Objective b r l e = absurd cc

@@ -1,18 +1,15 @@
 -- What is kept for each name, when one more number or card comes.
 use Rattle.std.proofs.Common.{◌≡◌, ℕ, ◌+◌, Bool, true, false, cond, ◌&&◌, List, [], ◌∷◌, ◌++◌, map, length, get_or, set, replicate, Option, Some, None, refl, sym, ap, ◌∙◌}
 use Rattle.std.specs.Prelude.{filter, not}
-use Rattle.std.proofs.lemmas.List.{map-append, replicate-append-replicate}
+use Rattle.std.proofs.lemmas.List.{append-nil, map-append, replicate-append-replicate}
 use Rattle.std.proofs.lemmas.List.Elements.{filter-append}
 use Rattle.std.proofs.lemmas.List.Sums.{fold_push}
 use Rattle.bl_mps.specs.declared.entries.Entry.{Entry}
 use Rattle.bl_mps.specs.declared.ends.Ends.{Ends}
 use Rattle.bl_cards.specs.Said.{same, place_of, Differ, Cell, Card}
 use Rattle.bl_mps.specs.Meaning.{is_zero, entries_of, entry_of, cells_of, cards_of, carded, ends_set, acted, unset, ends_or}
-use Rattle.bl_mps.proofs.PerName.{same_self, written_at, read_at, map_same, same_turned}
-
-append_nothing : {A : Type 0} (xs : List A) → xs ++ [] ≡ xs
-append_nothing [] = refl
-append_nothing (x ∷ xs) = ap (λ (ys : List _). x ∷ ys) (append_nothing xs)
+use Rattle.bl_cards.proofs.Differing.{same_self, read_at, same_turned}
+use Rattle.bl_mps.proofs.PerName.{written_at, map_same}
 
 -- ---- terms
 
@@ -21,7 +18,7 @@ counts row c = same row c.row && not (is_zero c.number)
 
 one_more : (t : Bool) (xs : List Entry) (c : Cell) → xs ++ map entry_of (cond t (c ∷ []) []) ≡ cond t (xs ++ entry_of c ∷ []) xs
 one_more true xs c = refl
-one_more false xs c = append_nothing xs
+one_more false xs c = append-nil xs
 
 -- a number puts a term behind those of its row, if it counts
 pub entries_push : (cells : List Cell) (c : Cell) (row : List ℕ) → entries_of (cells ++ c ∷ []) row ≡ cond (counts row c) (entries_of cells row ++ entry_of c ∷ []) (entries_of cells row)
@@ -60,7 +57,7 @@ entries_put names cells c i lists now new d e z h n p =
 
 one_card : (t : Bool) (xs : List Card) (c : Card) → xs ++ cond t (c ∷ []) [] ≡ cond t (xs ++ c ∷ []) xs
 one_card true xs c = refl
-one_card false xs c = append_nothing xs
+one_card false xs c = append-nil xs
 
 pub cards_push : (cards : List Card) (c : Card) (column : List ℕ) → cards_of (cards ++ c ∷ []) column ≡ cond (same column c.column) (cards_of cards column ++ c ∷ []) (cards_of cards column)
 cards_push cards c column =

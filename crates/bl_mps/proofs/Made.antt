@@ -2,7 +2,7 @@
 use Rattle.std.proofs.Common.{Ok, Err, ◌≡◌, ℕ, zero, suc, ◌+◌, ◌<◌, ◌^◌, Bool, true, false, cond, ◌&&◌, List, [], ◌∷◌, ◌++◌, map, length, take, drop, ◌||◌, get_or, Option, Some, None, is_some, refl, sym, ap, ◌∙◌, arith, ℤ}
 use Rattle.std.specs.Prelude.{filter}
 use Rattle.std.specs.List.{list_all}
-use Rattle.std.proofs.lemmas.List.{map-append, take_more, drop_more, length-take}
+use Rattle.std.proofs.lemmas.List.{append-nil, map-append, take_more, drop_more, length-take}
 use Rattle.std.proofs.lemmas.List.Elements.{filter-append}
 use Rattle.std.proofs.lemmas.List.Folds.{list_all-append}
 use Rattle.bl_num.specs.Decimals.{in_units}
@@ -54,16 +54,12 @@ rows_more s lines i d l =
     ∙ map-append (row_of s) (filter limited_line (take i lines)) (filter limited_line (get_or lines i d ∷ []))
     ∙ ap (λ (rs : List Row). map (row_of s) (filter limited_line (take i lines)) ++ rs) (added (limited_line (get_or lines i d)) s (get_or lines i d))
 
-append_nothing : {A : Type 0} (xs : List A) → xs ++ [] ≡ xs
-append_nothing [] = refl
-append_nothing (x ∷ xs) = ap (λ (ys : List _). x ∷ ys) (append_nothing xs)
-
 -- a row with ends is made, and another is passed over
 pub row_made : (s : Said) (lines : List RowLine) (i : ℕ) (d : RowLine) → i < length lines → is_limited (get_or lines i d).role ≡ true → map (row_of s) (filter limited_line (take (i + 1) lines)) ≡ map (row_of s) (filter limited_line (take i lines)) ++ row_of s (get_or lines i d) ∷ []
 row_made s lines i d l e = rows_more s lines i d l ∙ rw e refl
 
 pub row_passed : (s : Said) (lines : List RowLine) (i : ℕ) (d : RowLine) → i < length lines → is_limited (get_or lines i d).role ≡ false → map (row_of s) (filter limited_line (take (i + 1) lines)) ≡ map (row_of s) (filter limited_line (take i lines))
-row_passed s lines i d l e = rows_more s lines i d l ∙ rw e (append_nothing (map (row_of s) (filter limited_line (take i lines))))
+row_passed s lines i d l e = rows_more s lines i d l ∙ rw e (append-nil (map (row_of s) (filter limited_line (take i lines))))
 
 pub all_pushed : {A : Type 0} (p : A → Bool) (xs : List A) (x : A) → list_all p xs ≡ true → p x ≡ true → list_all p (xs ++ x ∷ []) ≡ true
 all_pushed p xs x e f = list_all-append p xs (x ∷ []) ∙ rw (e, f) refl

@@ -4,6 +4,7 @@ use Rattle.std.specs.Prelude.{filter, option_map, ◌==◌, int_lt}
 use Rattle.std.specs.List.{list_all}
 use Rattle.std.proofs.lemmas.Int.{ints}
 use Rattle.std.proofs.lemmas.Bool.Decides.{nat_tests}
+use Rattle.std.proofs.lemmas.Bool.{and_parts, not-true}
 use Rattle.std.proofs.lemmas.List.{length-map, get_or-map}
 use Rattle.std.proofs.lemmas.Simd.{map-map}
 use Rattle.std.proofs.lemmas.List.Folds.{list_all_at}
@@ -27,15 +28,11 @@ use Rattle.bl_cards.specs.Lines.{is_objective, is_limited, is_extra, has_objecti
 use Rattle.bl_mps.specs.Meaning.{is_zero, cells_of, entry_of, entries_of, term_of, terms_of, or_zero, said_of, places_of, range_in, row_of, rows_of, objective_said, objective_of, lowered, set_ends, acted, unset, carded, ends_or, binary, cards_of, end_or_zero, column_of, columns_from, program_of, is_within, term_within, end_within, row_within, keeps_limits, IsRowRead}
 use Rattle.bl_cards.specs.Coherence.{IsRead, IsSmall, IsCell, IsBefore, IsCoherent, IsGiven, IsCard}
 use Rattle.bl_mps.specs.Views.{row_said}
-use Rattle.bl_mps.proofs.PerName.{same_is, same_self}
+use Rattle.bl_cards.proofs.Differing.{same_is, same_self}
 use Rattle.bl_mps.proofs.Units.{Reached, places_few, places_reached, units_nonzero, units_last, ten_negated}
-use Rattle.bl_mps.proofs.Limits.{both, all_true, one_fails, within_is, ends_are}
+use Rattle.bl_mps.proofs.Limits.{all_true, one_fails, within_is, ends_are}
 
 -- ---- terms
-
-turned : (b : Bool) → not b ≡ true → b ≡ false
-turned true e = absurd cc
-turned false e = refl
 
 abbrev counts : List ℕ → Cell → Bool
 counts row c = same row c.row && not (is_zero c.number)
@@ -44,8 +41,8 @@ counts row c = same row c.row && not (is_zero c.number)
 rises : (row : List ℕ) (c d : Cell) → counts row c ≡ true → counts row d ≡ true → IsBefore c d → c.column < d.column
 rises row c d t u (inl l) = l
 rises row c d t u (inr p) =
-    let e : row ≡ c.row = same_is row c.row (both (same row c.row) (not (is_zero c.number)) t).0 in
-    let f : row ≡ d.row = same_is row d.row (both (same row d.row) (not (is_zero d.number)) u).0 in
+    let e : row ≡ c.row = same_is row c.row (and_parts (same row c.row) (not (is_zero c.number)) t).0 in
+    let f : row ≡ d.row = same_is row d.row (and_parts (same row d.row) (not (is_zero d.number)) u).0 in
     let s : same d.row c.row ≡ true = rw (← f, ← e) (same_self row) in
     let q = p.1 in
     absurd cc
@@ -82,7 +79,7 @@ module _ (n : ℕ) (cells : List Cell) (row : List ℕ) (h : All (IsCell n) cell
 
   term_is : (c : Cell) → IsCell n c → counts row c ≡ true → term_within (term c) ≡ true → IsTerm n (term c)
   term_is c k t w =
-      let z = turned (is_zero c.number) (both (same row c.row) (not (is_zero c.number)) t).1 in
+      let z = not-true (is_zero c.number) (and_parts (same row c.row) (not (is_zero c.number)) t).1 in
       record {
         column = k.within;
         coefficient = within_is (10 ^ 15) (in_units c.number places) w;
@@ -204,7 +201,7 @@ cost_within c = is_within (10 ^ 15) c.cost
 coefficient_within : (ts : List Term) (j : ℕ) → list_all term_within ts ≡ true → is_within (10 ^ 15) (coefficient_of ts j) ≡ true
 coefficient_within [] j e = refl
 coefficient_within (t ∷ ts) j e =
-    let b = both (term_within t) (list_all term_within ts) e in
+    let b = and_parts (term_within t) (list_all term_within ts) e in
     by (t.column == j) b.0 (coefficient_within ts j b.1)
   where
     by : (c : Bool) → term_within t ≡ true → is_within (10 ^ 15) (coefficient_of ts j) ≡ true → is_within (10 ^ 15) (cond c t.coefficient (coefficient_of ts j)) ≡ true
@@ -274,7 +271,7 @@ objective_said_is s row es right rhs a b c e = rw (a, e, c, b) refl
 row_is : (s : Said) (line : RowLine) → IsCoherent s → IsRowName line.name → is_limited line.role ≡ true → row_within (row_of s line) ≡ true → IsRow (length s.columns.names) (row_of s line)
 row_is s line h n e w =
     let r = said_of s line.name in
-    let b = both (list_all term_within (row_of s line).terms) (end_within (row_of s line).low && end_within (row_of s line).high) w in
+    let b = and_parts (list_all term_within (row_of s line).terms) (end_within (row_of s line).low && end_within (row_of s line).high) w in
     record {
       name = n;
       terms = terms_are (length s.columns.names) s.columns.cells line.name h.grid.each h.grid.rising (places_of r) b.0;
@@ -380,8 +377,8 @@ module _ (s : Said) (h : IsCoherent s) where
   -- what a file says is a problem, where it has an objective and keeps the limits
   pub program_is : has_objective s.rows ≡ true → keeps_limits (program_of s) ≡ true → IsProgram (program_of s)
   program_is some keeps =
-      let parts = both (list_all cost_within (columns_from s costs 0 s.columns.names) && is_within (10 ^ 24) (objective_of s).offset) (list_all row_within (rows_of s)) keeps in
-      let first = both (list_all cost_within (columns_from s costs 0 s.columns.names)) (is_within (10 ^ 24) (objective_of s).offset) parts.0 in
+      let parts = and_parts (list_all cost_within (columns_from s costs 0 s.columns.names) && is_within (10 ^ 24) (objective_of s).offset) (list_all row_within (rows_of s)) keeps in
+      let first = and_parts (list_all cost_within (columns_from s costs 0 s.columns.names)) (is_within (10 ^ 24) (objective_of s).offset) parts.0 in
       let near = sym (costs_within s costs s.columns.names costs_rise costs_inside) ∙ first.0 in
       let terms = terms_are (length s.columns.names) s.columns.cells (objective_in s.rows) h.grid.each h.grid.rising spread near in
       let wide = count_columns s costs 0 s.columns.names in

@@ -1,4 +1,4 @@
-pub mod Nothing
+pub mod Parts
 pub mod Widths
 pub mod Putting
 pub mod Tidying

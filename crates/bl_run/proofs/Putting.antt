@@ -1,9 +1,8 @@
 -- The outcome of the work may be put in.
-use Rattle.std.proofs.Common.{◌≡◌, ◌≢◌, ℕ, suc, ◌+◌, ◌-◌, ◌<◌, ◌≤◌, List, [], ◌∷◌, ◌++◌, length, refl, ap, sym, ◌∙◌, subst, arith, true, Some, None, Option, inl, inr, length-append, append-nil, AllPairs}
+use Rattle.std.proofs.Common.{◌≡◌, ◌≢◌, ℕ, suc, ◌+◌, ◌-◌, ◌<◌, ◌≤◌, List, [], ◌∷◌, ◌++◌, length, refl, ap, sym, ◌∙◌, subst, arith, true, Some, None, Option, inl, inr, length-append, AllPairs}
 use Rattle.std.specs.Prelude.{ℤ, ◌≤ℤ◌, ◌<ℤ◌, reverse, int_le, IfSome}
 use Rattle.std.proofs.lemmas.Int.{ints, clamps}
 use Rattle.std.proofs.lemmas.Bool.{and_parts}
-use Rattle.std.proofs.lemmas.List.{reverse-append}
 use Rattle.bl_num.specs.Exact.{at}
 use Rattle.bl_problem.specs.Program.{Program}
 use Rattle.bl_problem.specs.Points.{InBox, IsFeasible, value_of, trivial_bound_of}
@@ -17,7 +16,7 @@ use Rattle.bl_journal.specs.declared.outcome.Outcome.{Outcome}
 use Rattle.bl_journal.specs.declared.outcome.Next.{Next}
 use Rattle.bl_journal.specs.declared.outcome.Next.TheVariants.{Shut, Split}
 use Rattle.bl_journal.specs.declared.settings.Settings.{Settings}
-use Rattle.bl_journal.specs.Soundness.{IsSound, IsCommonFor, cutoff_with}
+use Rattle.bl_journal.specs.Soundness.{IsSound, cutoff_with}
 use Rattle.bl_journal.specs.Births.{nodes_of, node_at}
 use Rattle.bl_journal.specs.Descriptions.{full_of, left_child, right_child}
 use Rattle.bl_journal.specs.States.{has_point, cutoff_of}
@@ -25,8 +24,11 @@ use Rattle.bl_journal.specs.Pieces.{stored_of, form_at_birth, piece_below}
 use Rattle.bl_journal.specs.Legality.{MayPut}
 use Rattle.bl_journal.specs.Laws.{LeasesAreWorkable, ChildrenFollow, NewbornsAreStored}
 use Rattle.bl_tree.specs.Views.{TreeView, LeaseView, past_of, extended, IsLegalTree, IsLeaseOf, IsPutFor, PiecesStored}
-use Rattle.bl_run.proofs.Nothing.{relisted_none, unchanged}
-use Rattle.bl_run.specs.Work.{nothing, IsBelow, IsWork, IsHalved, is_halved, is_tested}
+use Rattle.bl_desc.proofs.Nothing.{unchanged}
+use Rattle.bl_journal.proofs.Nothing.{nothing_fits}
+use Rattle.bl_desc.specs.Changes.{nothing}
+use Rattle.bl_journal.proofs.Growth.{reverse-push}
+use Rattle.bl_run.specs.Work.{IsBelow, IsWork, IsHalved, is_halved, is_tested}
 
 -- the lows lie in a box with a point
 pub lows_inside : (lows highs : List ℤ) → length highs ≡ length lows → has_point lows highs ≡ true → InBox lows highs lows
@@ -49,27 +51,6 @@ only_point (a ∷ lows) (b ∷ highs) (v ∷ x) i h =
     let top : b ≤ℤ a = h 0 (omega arith) in
     let same : v ≡ a = omega (arith, ints, i.0, i.1, top) in
     ap (λ (z : ℤ). z ∷ x) same ∙ ap (λ (l : List ℤ). a ∷ l) (only_point lows highs x i.2 (λ j k. h (suc j) (omega (arith, k))))
-
--- the common change of nothing fits a description with few cuts of different ids
-nothing_fits : (d : Desc Cut) → AllPairs (λ (a b : Cut). a.id ≢ b.id) d.cuts → length d.cuts ≤ 200 → IsCommonFor d nothing
-nothing_fits d ids few =
-    record {
-      fits = record {
-        lows = λ k e h. absurd (omega (arith, h));
-        highs = λ k e h. absurd (omega (arith, h));
-        dropped = λ k e h. absurd (omega (arith, h));
-        columns = λ k e h. absurd (omega (arith, h));
-        rows = λ k e h. absurd (omega (arith, h));
-        fresh = λ k e h. absurd (omega (arith, h));
-      };
-      rising = record { lows = refl; highs = refl; dropped = refl; columns = refl; rows = refl; fresh = refl };
-      lows_rise = tt;
-      highs_fall = tt;
-      ids_differ = subst (λ (cuts : List Cut). AllPairs (λ (a b : Cut). a.id ≢ b.id) cuts) (sym (append-nil d.cuts)) ids;
-      few_bounds = omega arith;
-      few_statuses = omega arith;
-      few_cuts = subst (λ (cuts : List Cut). length cuts ≤ 200) (sym (relisted_none d.cuts)) few;
-    }
 
 -- what the work rests on
 pub record Workable (p : Program) (d : Desc Cut) : Type 0 where
@@ -121,9 +102,6 @@ none_sound p d cutoff low below one none =
           let same : x ≡ d.lows = only_point d.lows d.highs x q.in_box one in
           none (subst (IsFeasible p) same q.feasible);
     }
-
-reverse-push : (history : List Entry) (e : Entry) → reverse (history ++ e ∷ []) ≡ e ∷ reverse history
-reverse-push history e = reverse-append history (e ∷ [])
 
 -- the form of the children of a node
 abbrev pub form_under : TreeView → ℕ → Form

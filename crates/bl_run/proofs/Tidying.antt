@@ -2,7 +2,7 @@
 use Rattle.std.proofs.Common.{◌≡◌, ℕ, ◌-◌, ◌%◌, ◌<◌, List, [], ◌∷◌, ◌++◌, length, refl, ap, sym, ◌∙◌, subst, arith, Bool, true, false, cond, Some, None, inl, inr, All, append_assoc}
 use Rattle.std.specs.Prelude.{reverse, ◌==◌}
 use Rattle.std.proofs.lemmas.Bool.{eq-eqb, cond-true}
-use Rattle.std.proofs.lemmas.List.{reverse-append, length-reverse, get_or-reverse}
+use Rattle.std.proofs.lemmas.List.{length-reverse, get_or-reverse}
 use Rattle.bl_problem.specs.Program.{Program}
 use Rattle.bl_desc.specs.declared.desc.Form.{Form}
 use Rattle.bl_desc.specs.declared.desc.Form.TheVariants.{Explicit, Relative}
@@ -23,10 +23,8 @@ use Rattle.bl_tree.specs.declared.answer.Recoded.TheVariants.{Same, Gone}
 use Rattle.bl_tree.specs.Views.{TreeView, past_of, extended}
 use Rattle.bl_tree.specs.Answers.{IsBorn, recoded_from}
 use Rattle.bl_tree.specs.Calls.{recoded, Recodes}
+use Rattle.bl_journal.proofs.Growth.{reverse-push}
 use Rattle.bl_run.specs.Searches.{IsKeptUp, IsStoredWhole, AreStoredWhole, IsFreed, HasTidied}
-
-pub reverse-push : (history : List Entry) (e : Entry) → reverse (history ++ e ∷ []) ≡ e ∷ reverse history
-reverse-push history e = reverse-append history (e ∷ [])
 
 -- each element of a list is one of the list turned around
 pub All-reverse : {X : Type 0} (P : X → Type 0) (xs : List X) → All P xs → All P (reverse xs)

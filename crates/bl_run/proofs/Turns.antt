@@ -23,7 +23,8 @@ use Rattle.bl_tree.specs.declared.answer.Born.{Born}
 use Rattle.bl_tree.specs.Views.{TreeView, LeaseView, past_of, extended, put_entry, step_of}
 use Rattle.bl_tree.specs.Answers.{born_count, born_for}
 use Rattle.bl_run.specs.Searches.{IsBetweenTurns, HasWorked, PutsIn, IsFreed, HasTidied, count_with}
-use Rattle.bl_run.proofs.Tidying.{reverse-push, at_new, each_upkeep}
+use Rattle.bl_journal.proofs.Growth.{reverse-push}
+use Rattle.bl_run.proofs.Tidying.{at_new, each_upkeep}
 
 none_below : (test : ℕ → Bool) (n : ℕ) → ((i : ℕ) → test i ≡ false) → any_below test n ≡ false
 none_below test zero h = refl

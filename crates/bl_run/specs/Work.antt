@@ -1,5 +1,5 @@
 -- What the work on a node hands in.
-use Rattle.std.specs.Prelude.{◌≡◌, ◌≢◌, ◌⊎◌, ℕ, ◌<◌, ◌≤◌, ◌^◌, ℤ, pos, ◌+ℤ◌, ◌-ℤ◌, ◌≤ℤ◌, ◌<ℤ◌, List, [], length, All, AllPairs, Option, Some, None, true}
+use Rattle.std.specs.Prelude.{◌≡◌, ◌≢◌, ◌⊎◌, ℕ, ◌<◌, ◌≤◌, ◌^◌, ℤ, pos, ◌+ℤ◌, ◌-ℤ◌, ◌≤ℤ◌, ◌<ℤ◌, List, length, All, AllPairs, Option, Some, None, true}
 use Rattle.bl_num.specs.Exact.{at}
 use Rattle.bl_problem.specs.Sums.{IsWithin}
 use Rattle.bl_problem.specs.Program.{Program}
@@ -7,16 +7,12 @@ use Rattle.bl_problem.specs.Points.{IsFeasible, InBox, value_of, trivial_bound_o
 use Rattle.bl_problem.specs.declared.cut.Cut.{Cut}
 use Rattle.bl_desc.specs.declared.desc.Desc.{Desc}
 use Rattle.bl_desc.specs.declared.desc.Form.{Form}
-use Rattle.bl_desc.specs.declared.change.Change.{Change}
-use Rattle.bl_desc.specs.Changes.{IsWhole}
+use Rattle.bl_desc.specs.Changes.{IsWhole, nothing}
 use Rattle.bl_journal.specs.declared.outcome.Outcome.{Outcome}
 use Rattle.bl_journal.specs.declared.outcome.Next.TheVariants.{Shut, Split}
 use Rattle.bl_journal.specs.Descriptions.{left_child, right_child}
 use Rattle.bl_journal.specs.Pieces.{piece_below}
 use Rattle.bl_journal.specs.States.{has_point}
-
-abbrev pub nothing : Change Cut
-nothing = record { lows = []; highs = []; cuts = record { dropped = []; added = [] }; columns = []; rows = []; fresh = [] }
 
 -- a whole description within the limits, whose box has a point
 pub record IsHalvable (d : Desc Cut) : Type 0 where

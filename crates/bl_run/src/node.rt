@@ -3,13 +3,13 @@ ghost use Rattle.std.specs.Prelude.{◌≡◌, ◌<◌, ◌+◌, ◌^◌, ◌<�
 ghost use Rattle.bl_num.specs.Exact.{at};
 ghost use Rattle.bl_problem.specs.Sums.{IsWithin};
 ghost use Rattle.bl_problem.specs.Points.{trivial_bound_of};
-ghost use Rattle.bl_run.specs.Work.{IsWork, IsHalved, IsTested, IsHalvable, HasOtherBox, IsFirstWidest, IsWidest, IsMiddle, IsBelow, nothing};
+ghost use Rattle.bl_run.specs.Work.{IsWork, IsHalved, IsTested, IsHalvable, HasOtherBox, IsFirstWidest, IsWidest, IsMiddle, IsBelow};
 ghost use Rattle.bl_journal.specs.Descriptions.{left_child, right_child};
 ghost use Rattle.bl_journal.specs.Pieces.{piece_below};
 
 use bl_desc::{Change, Desc, Form, Piece, between};
 use bl_journal::{Next, Outcome};
-use bl_mods::{FieldMods, ListMods, Shared};
+use bl_mods::Shared;
 use bl_problem::{Cut, Problem};
 use std::alloc::{AllocError, Global};
 
@@ -57,20 +57,6 @@ fn middle(low: i64, high: i64) -> i64
     ensures { IsMiddle low high result }
 {
     low + (high - low) / 2
-}
-
-// The change of nothing.
-fn no_change(alloc: Global) -> Change<Cut>
-    ensures { result ≡ nothing }
-{
-    Change {
-        lows: FieldMods::new(alloc),
-        highs: FieldMods::new(alloc),
-        cuts: ListMods::new(alloc),
-        columns: FieldMods::new(alloc),
-        rows: FieldMods::new(alloc),
-        fresh: FieldMods::new(alloc),
-    }
 }
 
 // The description with another high of the column.
@@ -131,7 +117,7 @@ fn halve(
     let at = middle(lows[column], highs[column]);
     let left = piece_of(alloc, desc, form, left_half(desc, column, at)?)?;
     let right = piece_of(alloc, desc, form, right_half(desc, column, at)?)?;
-    let common = Shared::new(alloc, no_change(alloc))?;
+    let common = Shared::new(alloc, Change::new(alloc))?;
     Ok(Outcome {
         found: None,
         low,

@@ -2,7 +2,7 @@
 use Rattle.std.proofs.Common.{◌≡◌, ℕ, zero, suc, ◌+◌, ◌<◌, List, [], ◌∷◌, ◌++◌, length, refl, ap, sym, ◌∙◌, subst, arith, Bool, true, false, cond, not, Some, None, Option, inl, inr}
 use Rattle.std.specs.Prelude.{slice_get, ◌==◌, ◌||◌, ◌&&◌, IfSome, ℤ, find}
 use Rattle.std.specs.List.{list_all}
-use Rattle.std.proofs.lemmas.Bool.{cases_lt, eq-eqb, eqb-true, cond-true, cond-false, true≢false, and_parts, or_cases, or_left, or_right}
+use Rattle.std.proofs.lemmas.Bool.{cases_lt, eq-eqb, eqb-true, cond-true, cond-false, true≢false, and_parts, not-true, or_cases, or_left, or_parts, or_right}
 use Rattle.std.proofs.lemmas.List.Folds.{list_all-append}
 use Rattle.bl_problem.specs.Program.{Program}
 use Rattle.bl_desc.specs.declared.desc.Form.{Form}
@@ -42,17 +42,9 @@ bool_same true b f g = sym (f refl)
 bool_same false true f g = g refl
 bool_same false false f g = refl
 
-pub or_false : (a b : Bool) → (a || b) ≡ false → (a ≡ false) × (b ≡ false)
-or_false true b e = cc
-or_false false b e = (refl, e)
-
 or_assoc : (a b c : Bool) → ((a || b) || c) ≡ (a || (b || c))
 or_assoc true b c = refl
 or_assoc false b c = refl
-
-not_false : (b : Bool) → not b ≡ true → b ≡ false
-not_false true e = sym e
-not_false false e = refl
 
 -- a child is relative where it neither is freed nor explicit
 child_holds : (p : Program) (s : Settings) (past : List Entry) (id q : ℕ) (r : Record) → IsStoredOf p s past q r → is_parent (node_at p past q).parent id ≡ true
@@ -98,7 +90,7 @@ held_same p s past kept id r rs st e = bool_same _ _ (λ h. all_ids (lets_go p s
     child_free : (o : Option ℕ) (q : ℕ) → is_child_in o q ≡ true → is_held kept o ≡ false → holds_if (slice_get kept q) ≡ false
     child_free None q c h = absurd (true≢false (sym c))
     child_free (Some i) q c h =
-        let free = or_false (holds_if (slice_get kept i)) (holds_if (slice_get kept (i + 1))) h in
+        let free = or_parts (holds_if (slice_get kept i)) (holds_if (slice_get kept (i + 1))) h in
         elim (or_cases (q == i) (q == i + 1) c) [
           | inl t ↦ ap (λ m. holds_if (slice_get kept m)) (eqb-true q i t) ∙ free.0
           | inr t ↦ ap (λ m. holds_if (slice_get kept m)) (eqb-true q (i + 1) t) ∙ free.1
@@ -106,7 +98,7 @@ held_same p s past kept id r rs st e = bool_same _ _ (λ h. all_ids (lets_go p s
 
     by_parent : (q : ℕ) (b : Bool) → is_parent (node_at p past q).parent id ≡ b → q < length (nodes_of p past) → not (is_held kept r.children) ≡ true → lets_go p s past id q ≡ true
     by_parent q true parent b h =
-        one_goes q b parent (child_free r.children q (sym ((st id r e).children q b) ∙ parent) (not_false (is_held kept r.children) h))
+        one_goes q b parent (child_free r.children q (sym ((st id r e).children q b) ∙ parent) (not-true (is_held kept r.children) h))
     by_parent q false parent b h =
         or_assoc (not (is_parent (node_at p past q).parent id)) (is_freed (state_of past q)) (is_explicit (form_of p s past q))
         ∙ or_left (not (is_parent (node_at p past q).parent id)) (is_freed (state_of past q) || is_explicit (form_of p s past q)) (ap not parent)

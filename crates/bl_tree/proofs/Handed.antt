@@ -31,7 +31,8 @@ use Rattle.bl_tree.specs.Records.{is_out_stage, IsKept, best_value_with, fresh_r
 use Rattle.bl_journal.proofs.Leaves.{shape, out_born, state_kept, left_of, right_of, after_split}
 use Rattle.bl_journal.proofs.Sums.{one_if}
 use Rattle.bl_journal.proofs.Births.{left_follows, right_follows}
-use Rattle.bl_tree.proofs.Sets.{reverse-push, records_set, same_box, count_by-set}
+use Rattle.bl_journal.proofs.Growth.{reverse-push}
+use Rattle.bl_tree.proofs.Sets.{records_set, same_box, count_by-set}
 use Rattle.bl_tree.proofs.Stored.{stored_stage, stored_split}
 use Rattle.bl_tree.proofs.Kept.{kept_out, not_parted, is_over_by_split}
 use Rattle.bl_tree.proofs.Puts.{records_split, parted, child_record}

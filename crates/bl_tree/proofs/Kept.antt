@@ -18,7 +18,8 @@ use Rattle.bl_journal.specs.declared.settings.Order.TheVariants.{Best, Depth}
 use Rattle.bl_journal.specs.Replies.{reply_for, first_below, next_of, waits_live, goes_before, is_waiting, is_out, any_out, any_below, take_reply, gives}
 use Rattle.bl_journal.proofs.Living.{take_gives}
 use Rattle.bl_tree.proofs.Searches.{first_below-same}
-use Rattle.bl_tree.proofs.Sets.{reverse-push, count_by-set, records_set, same_box}
+use Rattle.bl_journal.proofs.Growth.{reverse-push}
+use Rattle.bl_tree.proofs.Sets.{count_by-set, records_set, same_box}
 use Rattle.bl_tree.proofs.Stored.{stored_stage}
 use Rattle.bl_problem.specs.declared.cut.Cut.{Cut}
 use Rattle.bl_desc.specs.declared.desc.Piece.{Piece}

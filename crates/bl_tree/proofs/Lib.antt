@@ -18,3 +18,4 @@ mod Covers
 mod Chained
 mod Trees
 mod Recodings
+pub mod Covering

@@ -1,7 +1,6 @@
 -- One record of a list changes.
 use Rattle.std.proofs.Common.{◌≡◌, ℕ, zero, suc, ◌+◌, List, [], ◌∷◌, ◌++◌, length, refl, ap, sym, ◌∙◌, subst, arith, Bool, cond, Some, inl, inr, length-set}
-use Rattle.std.specs.Prelude.{slice_get, slice_set, count_by, reverse}
-use Rattle.std.proofs.lemmas.List.{reverse-append}
+use Rattle.std.specs.Prelude.{slice_get, slice_set, count_by}
 use Rattle.std.proofs.lemmas.Bool.{cases_eq}
 use Rattle.std.proofs.lemmas.Option.{slice_get_within, get_or_from_slice_get}
 use Rattle.std.proofs.lemmas.List.Sums.{sum_by-set}
@@ -14,9 +13,6 @@ use Rattle.bl_journal.specs.Descriptions.{full_along}
 use Rattle.bl_journal.specs.States.{state_of, has_point}
 use Rattle.bl_tree.specs.Records.{stage_state, IsRecordOf, AreRecords}
 use Rattle.bl_journal.proofs.Sums.{one_if}
-
-pub reverse-push : (history : List Entry) (e : Entry) → reverse (history ++ e ∷ []) ≡ e ∷ reverse history
-reverse-push history e = reverse-append history (e ∷ [])
 
 pub slice_get-set : {X : Type 0} (xs : List X) (i k : ℕ) (y q : X) → slice_get (slice_set xs i y) k ≡ Some q → (k ≡ i → y ≡ q) × ((k ≡ i → ⊥) → slice_get xs k ≡ Some q)
 slice_get-set [] i k y q e = (λ _. cc, λ _. cc)

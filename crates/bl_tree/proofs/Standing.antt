@@ -8,7 +8,7 @@ use Rattle.bl_journal.specs.declared.entry.Entry.TheVariants.{Put}
 use Rattle.bl_journal.specs.declared.entry.Step.{Step}
 use Rattle.bl_journal.specs.States.{best_of, best_with, best_after, value_if, Found}
 use Rattle.bl_tree.specs.Records.{found_in, StandsAt, place_with}
-use Rattle.bl_tree.proofs.Sets.{reverse-push}
+use Rattle.bl_journal.proofs.Growth.{reverse-push}
 
 found_in-more : (entries : List Entry) (e : Entry) (place : ℕ) (x : List ℤ) → found_in (slice_get entries place) ≡ Some x → found_in (slice_get (entries ++ e ∷ []) place) ≡ Some x
 found_in-more [] e place x h = cc

@@ -16,7 +16,8 @@ use Rattle.bl_journal.proofs.Meaning.{Has-ids}
 use Rattle.bl_journal.specs.Pieces.{piece_in}
 use Rattle.bl_journal.specs.States.{state_of, best_of}
 use Rattle.bl_journal.specs.Legality.{MayEncode}
-use Rattle.bl_tree.proofs.Sets.{reverse-push, records_set, count_by-set}
+use Rattle.bl_journal.proofs.Growth.{reverse-push}
+use Rattle.bl_tree.proofs.Sets.{records_set, count_by-set}
 use Rattle.bl_tree.proofs.Stored.{stored_encoded}
 use Rattle.bl_tree.proofs.Chained.{not_freed, parent_born}
 use Rattle.bl_tree.proofs.Recodings.{encoded_is}

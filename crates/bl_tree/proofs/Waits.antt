@@ -1,6 +1,7 @@
 -- The list of the waiting nodes.
 use Rattle.std.proofs.Common.{◌≡◌, ℕ, zero, suc, ◌+◌, ◌<◌, ◌≤◌, List, [], ◌∷◌, ◌++◌, length, length-set, append_assoc, refl, ap, sym, ◌∙◌, subst, arith, Bool, true, false, cond, Some, Option, All}
 use Rattle.std.specs.Prelude.{slice_get, slice_set, count_by, filter, fold, insert, not, ℤ, ◌==◌, nat_lt, ◌||◌, slice_index_or, ◌-◌}
+use Rattle.std.proofs.Math.Bool.{or-false}
 use Rattle.std.proofs.lemmas.Bool.{eq-eqb, ne_eqb, cond-true, cond-false, lt-ltb, le-ltb}
 use Rattle.std.proofs.lemmas.List.Sums.{sum_by-cons, sum_by-append}
 use Rattle.bl_problem.specs.Program.{Program}
@@ -149,10 +150,6 @@ waiting_within xs kept ws waiting same there is =
     let n : length xs ≡ 0 + length kept = ap length same ∙ (let z : length kept ≡ 0 + length kept = omega arith in z) in
     subst (λ (l : List ℕ). All (λ w. w < length xs) l) (sym (there ∙ is)) (waiting_below 0 (length xs) kept n)
 
-or_false : (b : Bool) → b ≡ (b || false)
-or_false true = refl
-or_false false = refl
-
 or_step : (a b : Bool) (c : ℕ) → ((a || b) || nat_lt 0 c) ≡ (a || nat_lt 0 (one_if b + c))
 or_step true b c = refl
 or_step false true c = sym (lt-ltb 0 (1 + c) (omega arith))
@@ -160,7 +157,7 @@ or_step false false c = let z : c ≡ 0 + c = omega arith in ap (nat_lt 0) z
 
 any_out_from : (f : ℕ → Bool) (n : ℕ) (rs : List Record) → ((i : ℕ) (r : Record) → slice_get rs i ≡ Some r → f (n + i) ≡ is_out_stage r.stage)
     → any_below f (n + length rs) ≡ (any_below f n || nat_lt 0 (count_by (λ (r : Record). is_out_stage r.stage) rs))
-any_out_from f n [] h = let e : n + 0 ≡ n = omega arith in ap (any_below f) e ∙ or_false (any_below f n)
+any_out_from f n [] h = let e : n + 0 ≡ n = omega arith in ap (any_below f) e ∙ sym (or-false (any_below f n))
 any_out_from f n (x ∷ rs) h =
     let at : n + suc (length rs) ≡ suc n + length rs = omega arith in
     let here : n ≡ n + 0 = omega arith in

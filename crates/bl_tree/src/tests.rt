@@ -1,10 +1,13 @@
-//! Trees of a problem with two columns X and Y, costs 2 and 3, and the row 2X + 3Y >= 7, before anything is split.
-ghost use Rattle.std.specs.Prelude.{◌≡◌, [], ◌∷◌, Some, None, pos, ◌⊎◌, ◌≤◌, IfOk};
+//! Trees of a problem with two columns X and Y, costs 2 and 3, and the row 2X + 3Y >= 7.
+ghost use Rattle.std.specs.Prelude.{◌≡◌, [], ◌∷◌, pos, ◌⊎◌, IfOk};
+ghost use Rattle.bl_journal.specs.Covering.{covering, row, with_span, split_root};
+ghost use Rattle.bl_journal.specs.declared.entry.Entry.TheVariants.{Take};
+ghost use Rattle.bl_tree.specs.Views.{IsLeaseOf};
 
-use crate::{Answer, Freed, Recoded, Taken, Tree};
-use bl_desc::Form;
-use bl_journal::{Order, Settings};
-use bl_mods::Items;
+use crate::{Answer, Born, Freed, Lease, Recoded, Taken, Tree};
+use bl_desc::{Change, Form, Piece};
+use bl_journal::{Next, Order, Outcome, Settings};
+use bl_mods::{Items, Mod, Shared};
 use bl_problem::{Column, Name, Problem, Row, Term};
 use std::alloc::{AllocError, Global};
 use std::sync::Arc;
@@ -35,8 +38,7 @@ fn columns(alloc: Global, low: i64) -> Result<Vec<Column>, AllocError>
 }
 
 fn rows(alloc: Global) -> Result<Vec<Row>, AllocError>
-    ensures { IfOk result (λ rows. rows.items ≡
-        record { name = 82 ∷ []; terms = record { column = 0; coefficient = pos 2 } ∷ record { column = 1; coefficient = pos 3 } ∷ []; low = Some (pos 7); high = None } ∷ []) }
+    ensures { IfOk result (λ rows. rows.items ≡ row ∷ []) }
 {
     let name = Name::new(vec![in alloc; b'R']?);
     let x = Term {
@@ -58,31 +60,23 @@ fn rows(alloc: Global) -> Result<Vec<Row>, AllocError>
     ]?)
 }
 
-// The tree of the problem where X is at least 0.
-fn open_tree(alloc: Global, nodes: u32) -> Result<Tree, AllocError>
-    requires { nodes ≤ 100 }
-    ensures { IfOk result (λ tree. tree.history ≡ []) }
+// The problem, but for the low of X.
+fn problem(alloc: Global, low: i64) -> Result<Problem, AllocError>
+    requires { low ≡ pos 0 ⊎ low ≡ pos 11 }
+    ensures { IfOk result (λ problem. low ≡ pos 0 → problem ≡ covering) }
 {
-    let columns = columns(alloc, 0)?;
+    let columns = columns(alloc, low)?;
     let rows = rows(alloc)?;
     let objective = Name::new(vec![in alloc; b'C']?);
-    let problem = Problem::new(columns, rows, objective, 0, 0);
-    let settings = Settings {
-        nodes,
-        span: 8,
-        order: Order::Best,
-    };
-    Tree::new(alloc, Arc::new(alloc, problem)?, settings)
+    Ok(Problem::new(columns, rows, objective, 0, 0))
 }
 
-// The tree of the problem where X is at least 11, so that its box has no point.
-fn empty_tree(alloc: Global) -> Result<Tree, AllocError>
-    ensures { IfOk result (λ tree. tree.history ≡ []) }
+// The tree of the problem with this low of X; where that is 11, its box has no point.
+fn open_tree(alloc: Global, low: i64) -> Result<Tree, AllocError>
+    requires { low ≡ pos 0 ⊎ low ≡ pos 11 }
+    ensures { IfOk result (λ tree. low ≡ pos 0 → tree ≡ record { problem = covering; settings = with_span 8; history = [] }) }
 {
-    let columns = columns(alloc, 11)?;
-    let rows = rows(alloc)?;
-    let objective = Name::new(vec![in alloc; b'C']?);
-    let problem = Problem::new(columns, rows, objective, 0, 0);
+    let problem = problem(alloc, low)?;
     let settings = Settings {
         nodes: 100,
         span: 8,
@@ -91,62 +85,186 @@ fn empty_tree(alloc: Global) -> Result<Tree, AllocError>
     Tree::new(alloc, Arc::new(alloc, problem)?, settings)
 }
 
-fn recode_root(tree: &mut Tree, form: Form) -> Result<Recoded, AllocError> {
-    if tree.glance().nodes == 0 {
-        return Ok(Recoded::Gone);
+// The split of the root at X at most 4; an optimal point is found, or none.
+fn split(alloc: Global, found: bool) -> Result<Outcome, AllocError>
+    ensures { IfOk result (λ outcome. outcome ≡ split_root found) }
+{
+    let mut left = Change::new(alloc);
+    left.highs.push(0, 4)?;
+    let mut right = Change::new(alloc);
+    right.lows.push(0, 5)?;
+    let common = Shared::new(alloc, Change::new(alloc))?;
+    let next = Next::Split {
+        common,
+        column: 0,
+        at: 4,
+        left: Piece::Relative(Shared::new(alloc, left)?),
+        right: Piece::Relative(Shared::new(alloc, right)?),
+    };
+    if found {
+        let point = Items::from_vec(vec![in alloc; 2, 1]?);
+        Ok(Outcome {
+            found: Some(point),
+            low: 7,
+            next,
+        })
+    } else {
+        Ok(Outcome {
+            found: None,
+            low: 0,
+            next,
+        })
     }
-    tree.recode(0, 0, form)
 }
 
-fn frees_nothing(tree: &mut Tree) -> Result<bool, AllocError> {
+// Hands in the split of the root.
+fn put_root(
+    alloc: Global,
+    tree: &mut Tree,
+    lease: Lease,
+    found: bool,
+) -> Result<Option<Born>, AllocError>
+    requires tree { tree.old ≡ record { problem = covering; settings = with_span 8; history = Take 0 0 ∷ [] } }
+    requires leased { IsLeaseOf tree.old 0 lease }
+    requires root { lease.id ≡ 0 }
+{
+    match split(alloc, found) {
+        Ok(outcome) => Ok(tree.put(0, lease, outcome)),
+        Err(error) => {
+            tree.back(0, lease);
+            Err(error)
+        }
+    }
+}
+
+// The tree after the root was taken and split, and what was born.
+fn split_tree(alloc: Global, found: bool) -> Result<(Tree, Option<Born>), Fail> {
+    let mut tree = open_tree(alloc, 0)?;
+    match tree.take(0)? {
+        Taken::Node(lease) => {
+            let born = put_root(alloc, &mut tree, lease, found)?;
+            Ok((tree, born))
+        }
+        Taken::Idle | Taken::Done | Taken::Spent => Err(Fail::new("the root was wanted")),
+    }
+}
+
+// What an encoding answers, and Gone where the node is not born.
+fn recode(tree: &mut Tree, id: u32, form: Form) -> Result<Recoded, AllocError> {
+    if id < tree.glance().nodes {
+        tree.recode(0, id, form)
+    } else {
+        Ok(Recoded::Gone)
+    }
+}
+
+// Whether a free answers these nodes; none of them stands for Nothing.
+fn frees(tree: &mut Tree, nodes: &[u32]) -> Result<bool, AllocError> {
     match tree.free(0)? {
-        Freed::Chain(_) => Ok(false),
-        Freed::Nothing => Ok(true),
+        Freed::Chain(ids) => Ok(ids.as_slice() == nodes),
+        Freed::Nothing => Ok(nodes.is_empty()),
+    }
+}
+
+// Whether a take answers the node with these bounds. It is handed back.
+fn takes(tree: &mut Tree, id: u32, lows: &[i64], highs: &[i64]) -> Result<bool, AllocError> {
+    match tree.take(0)? {
+        Taken::Node(lease) => {
+            let desc = lease.desc();
+            let is_it = lease.id() == id
+                && desc.lows.as_slice() == lows
+                && desc.highs.as_slice() == highs;
+            tree.back(0, lease);
+            Ok(is_it)
+        }
+        Taken::Idle | Taken::Done | Taken::Spent => Ok(false),
+    }
+}
+
+// Whether a take answers that no node is live.
+fn is_done(tree: &mut Tree) -> Result<bool, AllocError> {
+    match tree.take(0)? {
+        Taken::Done => Ok(true),
+        Taken::Node(lease) => {
+            tree.back(0, lease);
+            Ok(false)
+        }
+        Taken::Idle | Taken::Spent => Ok(false),
     }
 }
 
 #[test]
 fn a_live_root_stays(rt: HostRuntime) -> Result<(), Fail> {
-    let mut tree = open_tree(rt.alloc(), 100)?;
-    assert!(rt; frees_nothing(&mut tree)?);
-    assert_eq!(rt; recode_root(&mut tree, Form::Relative)?, Recoded::Fixed);
-    assert_eq!(rt; recode_root(&mut tree, Form::Explicit)?, Recoded::Same);
+    let mut tree = open_tree(rt.alloc(), 0)?;
+    assert!(rt; frees(&mut tree, &[])?);
+    assert_eq!(rt; recode(&mut tree, 0, Form::Relative)?, Recoded::Fixed);
+    assert_eq!(rt; recode(&mut tree, 0, Form::Explicit)?, Recoded::Same);
     assert_eq!(rt; tree.held(), 7);
-    match tree.take(0)? {
-        Taken::Node(lease) => {
-            assert_eq!(rt; lease.id(), 0);
-            assert_eq!(rt; lease.desc().highs.as_slice(), [10, 10].as_slice());
-            tree.back(0, lease);
-        }
-        _ => panic!(rt; "the root was wanted"),
-    }
-    assert!(rt; frees_nothing(&mut tree)?);
+    assert!(rt; takes(&mut tree, 0, &[0, 0], &[10, 10])?);
+    assert!(rt; frees(&mut tree, &[])?);
     assert_eq!(rt; tree.journal().len(), 2);
     Ok(())
 }
 
 #[test]
 fn a_root_without_a_point_is_freed(rt: HostRuntime) -> Result<(), Fail> {
-    let mut tree = empty_tree(rt.alloc())?;
-    match tree.take(0)? {
-        Taken::Done => (),
-        Taken::Node(lease) => {
-            tree.back(0, lease);
-            panic!(rt; "no node was wanted")
-        }
-        _ => panic!(rt; "Done was wanted"),
-    }
-    match tree.free(3)? {
-        Freed::Chain(ids) => assert_eq!(rt; ids.as_slice(), [0].as_slice()),
-        Freed::Nothing => panic!(rt; "the root was wanted"),
-    }
-    assert!(rt; frees_nothing(&mut tree)?);
+    let mut tree = open_tree(rt.alloc(), 11)?;
+    assert!(rt; is_done(&mut tree)?);
+    assert!(rt; frees(&mut tree, &[0])?);
+    assert!(rt; frees(&mut tree, &[])?);
     assert!(rt; tree.stored(0).is_none());
     assert_eq!(rt; tree.held(), 0);
-    assert_eq!(rt; recode_root(&mut tree, Form::Explicit)?, Recoded::Gone);
+    assert_eq!(rt; recode(&mut tree, 0, Form::Explicit)?, Recoded::Gone);
+    assert!(rt; matches!(tree.answer(), Answer::Infeasible));
+    Ok(())
+}
+
+#[test]
+fn children_are_encoded_and_their_parent_is_freed(rt: HostRuntime) -> Result<(), Fail> {
+    let (mut tree, born) = split_tree(rt.alloc(), false)?;
+    assert_eq!(rt; born, Some(Born { left: 1, right: 2 }));
+    let high_four = [Mod { place: 0, entry: 4 }];
+    match tree.stored(1) {
+        Some(Piece::Relative(change)) => {
+            assert!(rt; change.get().highs.entries() == high_four.as_slice());
+        }
+        _ => panic!(rt; "a change was wanted"),
+    }
+    assert_eq!(rt; tree.held(), 9);
+    assert!(rt; frees(&mut tree, &[])?);
+    assert_eq!(rt; recode(&mut tree, 1, Form::Explicit)?, Recoded::Made);
+    assert!(rt; frees(&mut tree, &[])?);
+    assert_eq!(rt; recode(&mut tree, 2, Form::Explicit)?, Recoded::Made);
+    assert_eq!(rt; tree.held(), 21);
+    assert!(rt; frees(&mut tree, &[0])?);
+    assert_eq!(rt; tree.held(), 14);
+    assert_eq!(rt; recode(&mut tree, 1, Form::Relative)?, Recoded::Gone);
+    assert!(rt; takes(&mut tree, 1, &[0, 0], &[4, 10])?);
+    assert!(rt; frees(&mut tree, &[])?);
     match tree.answer() {
-        Answer::Infeasible => (),
-        _ => panic!(rt; "Infeasible was wanted"),
+        Answer::Bounded { bound, best } => {
+            assert_eq!(rt; bound, 0);
+            assert!(rt; best.is_none());
+        }
+        _ => panic!(rt; "a bound was wanted"),
+    }
+    Ok(())
+}
+
+#[test]
+fn nodes_without_hope_are_freed(rt: HostRuntime) -> Result<(), Fail> {
+    let (mut tree, _) = split_tree(rt.alloc(), true)?;
+    assert!(rt; is_done(&mut tree)?);
+    assert!(rt; frees(&mut tree, &[1])?);
+    assert!(rt; frees(&mut tree, &[2, 0])?);
+    assert!(rt; frees(&mut tree, &[])?);
+    assert_eq!(rt; tree.held(), 0);
+    match tree.answer() {
+        Answer::Optimal { value, point } => {
+            assert_eq!(rt; value, 7);
+            assert!(rt; point == [2, 1].as_slice());
+        }
+        _ => panic!(rt; "an optimal point was wanted"),
     }
     Ok(())
 }

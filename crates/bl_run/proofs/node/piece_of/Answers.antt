@@ -1,7 +1,7 @@
 use Rattle.std.proofs.Common.{List, sym, subst}
 use Rattle.bl_mods.specs.Mods.{IsPartThenFresh}
 use Rattle.bl_problem.specs.declared.cut.Cut.{Cut}
-use Rattle.bl_run.proofs.Nothing.{part_of_itself}
+use Rattle.bl_run.proofs.Parts.{part_of_itself}
 use Rattle.bl_run.proofs.node.piece_of.Goals as goal
 
 pub between-requires-clause-part : goal.between-requires-clause-part

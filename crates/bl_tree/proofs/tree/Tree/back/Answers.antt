@@ -7,7 +7,7 @@ use Rattle.bl_journal.specs.declared.entry.Entry.TheVariants.{Back}
 use Rattle.bl_journal.specs.States.{state_of, out}
 use Rattle.bl_tree.specs.Views.{TreeView, past_of}
 use Rattle.bl_tree.proofs.Kept.{kept_born, kept_out, kept_back}
-use Rattle.bl_tree.proofs.Sets.{reverse-push}
+use Rattle.bl_journal.proofs.Growth.{reverse-push}
 use Rattle.bl_tree.proofs.Covers.{covered_back}
 use Rattle.bl_tree.proofs.Searches.{slice_get-is}
 use Rattle.bl_tree.proofs.Standing.{stands_more}

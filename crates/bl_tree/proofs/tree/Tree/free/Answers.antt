@@ -7,7 +7,7 @@ use Rattle.bl_journal.specs.Freeing.{first_freeable, HasNothingToFree, IsFreeCha
 use Rattle.bl_tree.specs.Views.{TreeView, past_of, extended}
 use Rattle.bl_tree.specs.Records.{depth_if}
 use Rattle.bl_tree.proofs.Searches.{slice_get-is}
-use Rattle.bl_tree.proofs.Sets.{reverse-push}
+use Rattle.bl_journal.proofs.Growth.{reverse-push}
 use Rattle.bl_tree.proofs.Candidates.{linked}
 use Rattle.bl_tree.proofs.Trees.{tree_room, tree_idle, tree_freed, freed_tree, first_holds, nothing_to_free}
 use Rattle.bl_tree.proofs.tree.Tree.free.Goals as goal

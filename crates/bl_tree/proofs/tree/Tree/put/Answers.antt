@@ -11,7 +11,7 @@ use Rattle.bl_desc.specs.Changes.{changed}
 use Rattle.bl_journal.specs.Births.{nodes_of}
 use Rattle.bl_journal.specs.Descriptions.{left_child, right_child}
 use Rattle.bl_journal.proofs.Lines.{full_whole}
-use Rattle.bl_tree.proofs.Sets.{reverse-push}
+use Rattle.bl_journal.proofs.Growth.{reverse-push}
 use Rattle.bl_tree.proofs.Covers.{IsCovered, covered_put, two_among}
 use Rattle.bl_tree.specs.Records.{best_value_with, place_with, improves, box_has_point}
 use Rattle.bl_journal.specs.declared.entry.Entry.{Entry}

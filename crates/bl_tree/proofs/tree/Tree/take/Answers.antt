@@ -17,7 +17,7 @@ use Rattle.bl_journal.proofs.Leaves.{is_waiting-is}
 use Rattle.bl_tree.specs.Records.{is_out_stage}
 use Rattle.bl_tree.proofs.Waits.{reply_among, someone_out, waiting_within, waits_taken}
 use Rattle.bl_tree.proofs.Kept.{kept_take, taken_lease, IsTaken-moved}
-use Rattle.bl_tree.proofs.Sets.{reverse-push}
+use Rattle.bl_journal.proofs.Growth.{reverse-push}
 use Rattle.bl_tree.proofs.Searches.{slice_get-is}
 use Rattle.bl_tree.proofs.Standing.{stands_more}
 use Rattle.bl_tree.proofs.Chained.{rebuilt_is}
