@@ -1,10 +1,21 @@
 -- The bounds of unit multipliers: all 0, or 0 but for a 1 or a -1 at one row.
-use Rattle.std.specs.Prelude.{ℕ, zero, suc, List, length, fold, ◌≡◌, ◌≢◌, ◌<◌, ◌+◌, ℤ, pos, negsuc, ◌+ℤ◌, ◌-ℤ◌, ◌*ℤ◌, Option, Some, None, option_map}
+use Rattle.std.specs.Prelude.{ℕ, zero, suc, List, length, fold, ◌≡◌, ◌≢◌, ◌<◌, ◌≤◌, ◌+◌, ◌^◌, ℤ, pos, negsuc, ◌+ℤ◌, ◌-ℤ◌, ◌*ℤ◌, Option, Some, None, All, option_map}
 use Rattle.std.specs.Int.{int_max}
 use Rattle.bl_num.specs.Exact.{at, sum_below}
 use Rattle.bl_problem.specs.Sums.{IsWithin, total}
+use Rattle.bl_problem.specs.Program.{IsColumn}
+use Rattle.bl_problem.specs.declared.problem.Column.{Column}
 use Rattle.bl_problem.specs.declared.problem.Row.{Row}
 use Rattle.bl_problem.specs.declared.problem.Term.{Term}
+
+-- at most 1000 columns, with one low and one high for each, all within the limits
+pub record AreBounded (columns : List Column) (lows highs : List ℤ) : Type 0 where
+  pub few : length columns ≤ 1000
+  pub each : All IsColumn columns
+  pub low_width : length lows ≡ length columns
+  pub high_width : length highs ≡ length columns
+  pub near_lows : All (IsWithin (10 ^ 9)) lows
+  pub near_highs : All (IsWithin (10 ^ 9)) highs
 
 -- multipliers for the rows and then the cuts that are 0 but for at most one, which is 1 or -1 and stands at a row
 pub record AreUnit (rows cuts : ℕ) (y : List ℤ) : Type 0 where

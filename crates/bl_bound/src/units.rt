@@ -1,12 +1,12 @@
 //! The greatest of the bounds that unit multipliers give.
-ghost use Rattle.std.specs.Prelude.{◌≡◌, ◌≤◌, ◌^◌, ◌*◌, ◌≤ℤ◌, ◌-ℤ◌, length, pos, List, ℤ, Some, All, IfSome};
+ghost use Rattle.std.specs.Prelude.{◌≡◌, ◌^◌, ◌*◌, ◌≤ℤ◌, ◌-ℤ◌, length, pos, List, ℤ, Some, All, IfSome};
 ghost use Rattle.bl_problem.specs.Sums.{IsWithin};
 ghost use Rattle.bl_problem.specs.Rows.{AreTerms};
-ghost use Rattle.bl_problem.specs.Program.{IsColumn, IsRow};
+ghost use Rattle.bl_problem.specs.Program.{IsRow};
 ghost use Rattle.bl_problem.specs.Points.{costs_of, value_of};
 ghost use Rattle.bl_bound.specs.Bounds.{bound_of};
 ghost use Rattle.bl_bound.specs.Descriptions.{Describes, IsLeft};
-ghost use Rattle.bl_bound.specs.Units.{AreUnit, least_of, box_bound, moved, end_of, row_bound, raised, greatest_of};
+ghost use Rattle.bl_bound.specs.Units.{AreBounded, AreUnit, least_of, box_bound, moved, end_of, row_bound, raised, greatest_of};
 
 use bl_desc::Desc;
 use bl_num::product;
@@ -21,13 +21,8 @@ fn least(cost: i64, low: i64, high: i64) -> i128
 
 // What zero multipliers give.
 fn box_sum(columns: &[Column], offset: i128, lows: &[i64], highs: &[i64]) -> i128
-    requires low_width { length lows.now ≡ length columns.now }
-    requires high_width { length highs.now ≡ length columns.now }
-    requires few { length columns.now ≤ 1000 }
-    requires columns { All IsColumn columns.now }
+    requires bounded { AreBounded columns.now lows.now highs.now }
     requires offset { IsWithin (10 ^ 24) offset }
-    requires low_near { All (IsWithin (10 ^ 9)) lows.now }
-    requires high_near { All (IsWithin (10 ^ 9)) highs.now }
     ensures exact { result ≡ box_bound offset (costs_of columns.now) lows.now highs.now }
     ensures near { IsWithin (10 ^ 28) result }
 {
@@ -52,12 +47,7 @@ fn part_move(cost: i64, low: i64, high: i64, step: i64) -> i128
 
 // By how much the multiplier at the terms moves the columns' least parts.
 fn move_of(columns: &[Column], lows: &[i64], highs: &[i64], terms: &[Term], y: i64) -> i128
-    requires low_width { length lows.now ≡ length columns.now }
-    requires high_width { length highs.now ≡ length columns.now }
-    requires few { length columns.now ≤ 1000 }
-    requires columns { All IsColumn columns.now }
-    requires low_near { All (IsWithin (10 ^ 9)) lows.now }
-    requires high_near { All (IsWithin (10 ^ 9)) highs.now }
+    requires bounded { AreBounded columns.now lows.now highs.now }
     requires terms { AreTerms (length columns.now) terms.now }
     requires unit { IsWithin 1 y }
     ensures exact { result ≡ moved (costs_of columns.now) lows.now highs.now y terms.now }
@@ -87,12 +77,7 @@ fn row_sum(
     row: &Row,
     y: i64,
 ) -> Option<i128>
-    requires low_width { length lows.now ≡ length columns.now }
-    requires high_width { length highs.now ≡ length columns.now }
-    requires few { length columns.now ≤ 1000 }
-    requires columns { All IsColumn columns.now }
-    requires low_near { All (IsWithin (10 ^ 9)) lows.now }
-    requires high_near { All (IsWithin (10 ^ 9)) highs.now }
+    requires bounded { AreBounded columns.now lows.now highs.now }
     requires row { IsRow (length columns.now) row.now }
     requires base { IsWithin (10 ^ 28) base }
     requires unit { IsWithin 1 y }
@@ -115,12 +100,7 @@ fn raise(best: i128, bound: Option<i128>) -> i128
 
 // The greatest of what zero multipliers give and the bounds of 1 and -1 at each row.
 fn greatest(columns: &[Column], lows: &[i64], highs: &[i64], base: i128, rows: &[Row]) -> i128
-    requires low_width { length lows.now ≡ length columns.now }
-    requires high_width { length highs.now ≡ length columns.now }
-    requires few { length columns.now ≤ 1000 }
-    requires columns { All IsColumn columns.now }
-    requires low_near { All (IsWithin (10 ^ 9)) lows.now }
-    requires high_near { All (IsWithin (10 ^ 9)) highs.now }
+    requires bounded { AreBounded columns.now lows.now highs.now }
     requires rows { All (IsRow (length columns.now)) rows.now }
     requires base { IsWithin (10 ^ 28) base }
     ensures { result ≡ greatest_of base (costs_of columns.now) lows.now highs.now rows.now }

@@ -42,7 +42,7 @@ lowered_high-near j v pass h f l p = by (int_lt v (at pass.highs j)) refl
         let w = h.near_highs j (pos 0) (omega (arith, h.highs)) in
         let near : IsWithin (10 ^ 9) v = omega (arith, ints, e, w, p) in
         record {
-          near = record { highs = length-set pass.highs j v ∙ h.highs; near_lows = h.near_lows; near_highs = All-set (IsWithin (10 ^ 9)) pass.highs j v near h.near_highs; decisions = decided-more (length pass.lows) pass.decisions _ h.decisions f l near };
+          near = record { few = h.few; highs = length-set pass.highs j v ∙ h.highs; near_lows = h.near_lows; near_highs = All-set (IsWithin (10 ^ 9)) pass.highs j v near h.near_highs; decisions = decided-more (length pass.lows) pass.decisions _ h.decisions f l near };
           width = refl;
         }
     by false e = stays pass h
@@ -56,7 +56,7 @@ raised_low-near j v pass h f l p = by (int_lt (at pass.lows j) v) refl
         let w = h.near_lows j (pos 0) l in
         let near : IsWithin (10 ^ 9) v = omega (arith, ints, e, w, p) in
         record {
-          near = record { highs = h.highs ∙ sym (length-set pass.lows j v); near_lows = All-set (IsWithin (10 ^ 9)) pass.lows j v near h.near_lows; near_highs = h.near_highs; decisions = rw (length-set pass.lows j v) (decided-more (length pass.lows) pass.decisions _ h.decisions f l near) };
+          near = record { few = rw (length-set pass.lows j v) h.few; highs = h.highs ∙ sym (length-set pass.lows j v); near_lows = All-set (IsWithin (10 ^ 9)) pass.lows j v near h.near_lows; near_highs = h.near_highs; decisions = rw (length-set pass.lows j v) (decided-more (length pass.lows) pass.decisions _ h.decisions f l near) };
           width = length-set pass.lows j v;
         }
     by false e = stays pass h
@@ -94,7 +94,7 @@ by_slack-near : (i : ℕ) (negate : Bool) (n : ℕ) (terms : List Term) (s : ℤ
 by_slack-near i negate n terms s pass h w c = by (int_lt s (pos 0)) refl
   where
     by : (t : Bool) → int_lt s (pos 0) ≡ t → StaysNear pass (cond t (record { lows = pass.lows; highs = pass.highs; decisions = pass.decisions; stuck = Some i }) (cut_terms negate s terms pass))
-    by true e = record { near = record { highs = h.highs; near_lows = h.near_lows; near_highs = h.near_highs; decisions = h.decisions }; width = refl }
+    by true e = record { near = record { few = h.few; highs = h.highs; near_lows = h.near_lows; near_highs = h.near_highs; decisions = h.decisions }; width = refl }
     by false e = cut_terms-near negate s n terms pass h w c (omega (arith, ints, e))
 
 pub end_step-near : (i : ℕ) (negate : Bool) (n : ℕ) (terms : List Term) (end : Option ℤ) (pass : Pass) → IsNear pass → length pass.lows ≡ n → All (λ t. t.column < n) terms →

@@ -67,6 +67,6 @@ pub tightened-within : (p : Program) (desc : Desc Cut) → IsProgram p → Descr
 tightened-within p desc h s =
     let start : Pass = record { lows = desc.lows; highs = desc.highs; decisions = []; stuck = None } in
     let none : AreDecisions (length desc.lows) [] = record { few = omega arith; each = All-nil (IsDecision (length desc.lows)) } in
-    let near : IsNear start = record { highs = s.highs ∙ sym s.lows; near_lows = s.near_lows; near_highs = s.near_highs; decisions = none } in
+    let near : IsNear start = record { few = rw s.lows h.few_columns; highs = s.highs ∙ sym s.lows; near_lows = s.near_lows; near_highs = s.near_highs; decisions = none } in
     let t = walked-near (length (lines_of p.rows desc.cuts)) (length p.columns) (lines_of p.rows desc.cuts) start (omega arith) near s.lows (are_lines p desc h s) in
     within-by (length p.columns) (pass_of p desc).stuck (pass_of p desc).decisions (rw (t.width ∙ s.lows) at t.near.decisions)

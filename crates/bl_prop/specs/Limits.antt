@@ -1,9 +1,14 @@
--- The limits of lines and of decisions.
-use Rattle.std.specs.Prelude.{ℕ, ◌<◌, ◌≤◌, length, ◌^◌, ℤ, List, Option, Some, None, All}
+-- The limits of slacks, lines and decisions.
+use Rattle.std.specs.Prelude.{ℕ, ◌<◌, ◌≤◌, length, ◌^◌, ℤ, pos, ◌≤ℤ◌, List, Option, Some, None, All}
 use Rattle.bl_problem.specs.Sums.{IsWithin}
 use Rattle.bl_problem.specs.Rows.{AreTerms}
 use Rattle.bl_problem.specs.declared.decision.Decision.{Decision}
 use Rattle.bl_bound.specs.Lines.{Line}
+
+-- a slack that is not negative, and far from the ends of `i128`
+pub record IsSlack (s : ℤ) : Type 0 where
+  pub low : pos 0 ≤ℤ s
+  pub high : s ≤ℤ pos (10 ^ 31)
 
 -- an end, where it is there, is within the limit
 abbrev pub IsEnd : Option ℤ → Type 0

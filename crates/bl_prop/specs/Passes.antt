@@ -1,5 +1,5 @@
 -- One pass of bound tightening over the rows and then the cuts.
-use Rattle.std.specs.Prelude.{ℕ, zero, suc, ◌≡◌, ◌^◌, Bool, true, false, List, [], ◌∷◌, ◌++◌, length, ℤ, pos, negsuc, ◌+ℤ◌, ◌-ℤ◌, ◌*ℤ◌, neg_ℤ, Option, Some, None, All, fold, int_lt, nat_le, if◌then◌else◌, slice_set}
+use Rattle.std.specs.Prelude.{ℕ, zero, suc, ◌≡◌, ◌≤◌, ◌^◌, Bool, true, false, List, [], ◌∷◌, ◌++◌, length, ℤ, pos, negsuc, ◌+ℤ◌, ◌-ℤ◌, ◌*ℤ◌, neg_ℤ, Option, Some, None, All, fold, int_lt, nat_le, if◌then◌else◌, slice_set}
 use Rattle.std.specs.Int.{int_min}
 use Rattle.bl_num.specs.Exact.{at, floor_of}
 use Rattle.bl_problem.specs.Sums.{total, IsWithin}
@@ -81,8 +81,9 @@ unfoldable pub walked : ℕ → List Line → Pass → Pass
 walked zero lines pass = pass
 walked (suc n) lines pass = line_step n (line_at lines n) (walked n lines pass)
 
--- one low and one high for each column, and the decisions, within the limits
+-- one low and one high for each of at most 1000 columns, and the decisions, within the limits
 pub record IsNear (pass : Pass) : Type 0 where
+  pub few : length pass.lows ≤ 1000
   pub highs : length pass.highs ≡ length pass.lows
   pub near_lows : All (IsWithin (10 ^ 9)) pass.lows
   pub near_highs : All (IsWithin (10 ^ 9)) pass.highs

@@ -18,13 +18,13 @@ pub struct Pass {
 }
 
 impl Pass {
-    ghost use Rattle.std.specs.Prelude.{◌≡◌, ◌≤◌, ◌<◌, ◌+◌, ◌^◌, Bool, length, All, pos, ◌≤ℤ◌, ◌+ℤ◌, ◌-ℤ◌, OnOk, IsTrue};
+    ghost use Rattle.std.specs.Prelude.{◌≡◌, ◌≤◌, ◌<◌, ◌+◌, ◌^◌, length, pos, ◌≤ℤ◌, ◌+ℤ◌, ◌-ℤ◌, OnOk, IsTrue};
     ghost use Rattle.bl_num.specs.Exact.{at};
     ghost use Rattle.bl_problem.specs.Sums.{IsWithin};
-    ghost use Rattle.bl_problem.specs.Rows.{AreTerms};
+    ghost use Rattle.bl_problem.specs.Rows.{IsTerm, AreTerms};
     ghost use Rattle.bl_bound.specs.Lines.{line_of, lines_of};
     ghost use Rattle.bl_prop.specs.Passes.{turned, least_of, lowered_high, raised_low, cut_by, cut_term, cut_terms, is_full, is_over, by_slack, end_step, line_step, walked, IsNear};
-    ghost use Rattle.bl_prop.specs.Limits.{IsEnd, AreLines};
+    ghost use Rattle.bl_prop.specs.Limits.{IsSlack, IsEnd, IsLine, AreLines};
 
     fn low(&self, column: u32) -> i64
         requires { column < length self.now.lows }
@@ -42,7 +42,6 @@ impl Pass {
 
     // The slack of an end: the end less the least sum of the terms.
     fn slack(&self, terms: &[Term], negate: bool, end: i128) -> i128
-        requires few { length self.now.lows ≤ 1000 }
         requires near { IsNear self.now }
         requires terms { AreTerms (length self.now.lows) terms.now }
         requires end { IsWithin (10 ^ 30) end }
@@ -91,10 +90,8 @@ impl Pass {
 
     // Whether the coefficient's size times the column's width is within the slack: it decides nothing then.
     fn is_loose(&self, slack: i128, column: u32, coefficient: i64) -> bool
-        requires in_lows { column < length self.now.lows }
-        requires in_highs { column < length self.now.highs }
-        requires near_low { IsWithin (10 ^ 9) (at self.now.lows column) }
-        requires near_high { IsWithin (10 ^ 9) (at self.now.highs column) }
+        requires near { IsNear self.now }
+        requires column { column < length self.now.lows }
         requires small { IsWithin (10 ^ 15) coefficient }
         ensures { IsTrue result → cut_by slack column coefficient self.now ≡ self.now }
     {
@@ -104,13 +101,10 @@ impl Pass {
 
     // What a coefficient decides at that slack.
     fn cut_by(&mut self, slack: i128, column: u32, coefficient: i64) -> Result<(), AllocError>
-        requires in_lows { column < length self.old.lows }
-        requires in_highs { column < length self.old.highs }
-        requires near_low { IsWithin (10 ^ 9) (at self.old.lows column) }
-        requires near_high { IsWithin (10 ^ 9) (at self.old.highs column) }
-        requires slack_low { pos 0 ≤ℤ slack }
-        requires slack_high { slack ≤ℤ pos (10 ^ 31) }
+        requires near { IsNear self.old }
+        requires column { column < length self.old.lows }
         requires small { IsWithin (10 ^ 15) coefficient }
+        requires slack { IsSlack slack }
         ensures { OnOk result (self.new ≡ cut_by slack column coefficient self.old) }
     {
         if self.is_loose(slack, column, coefficient) {
@@ -146,10 +140,8 @@ impl Pass {
 
     fn cut_term(&mut self, term: Term, negate: bool, slack: i128) -> Result<(), AllocError>
         requires near { IsNear self.old }
-        requires column { term.column < length self.old.lows }
-        requires small { IsWithin (10 ^ 15) term.coefficient }
-        requires slack_low { pos 0 ≤ℤ slack }
-        requires slack_high { slack ≤ℤ pos (10 ^ 31) }
+        requires term { IsTerm (length self.old.lows) term }
+        requires slack { IsSlack slack }
         ensures step { OnOk result (self.new ≡ cut_term negate slack self.old term) }
     {
         if self.is_full() {
@@ -161,8 +153,7 @@ impl Pass {
     fn cut_terms(&mut self, terms: &[Term], negate: bool, slack: i128) -> Result<(), AllocError>
         requires near { IsNear self.old }
         requires terms { AreTerms (length self.old.lows) terms.now }
-        requires slack_low { pos 0 ≤ℤ slack }
-        requires slack_high { slack ≤ℤ pos (10 ^ 31) }
+        requires slack { IsSlack slack }
         ensures { OnOk result (self.new ≡ cut_terms negate slack terms.now self.old) }
     {
         for term in terms {
@@ -198,7 +189,6 @@ impl Pass {
         negate: bool,
         end: Option<i128>,
     ) -> Result<(), AllocError>
-        requires few { length self.old.lows ≤ 1000 }
         requires near { IsNear self.old }
         requires terms { AreTerms (length self.old.lows) terms.now }
         requires end { IsEnd end }
@@ -216,11 +206,8 @@ impl Pass {
 
     // Both ends of a line, high first.
     fn line_step(&mut self, place: u32, line: LineRef<'_>) -> Result<(), AllocError>
-        requires few { length self.old.lows ≤ 1000 }
         requires near { IsNear self.old }
-        requires terms { AreTerms (length self.old.lows) line.terms.now }
-        requires low { IsEnd line.low }
-        requires high { IsEnd line.high }
+        requires line { IsLine (length self.old.lows) (line_of line) }
         ensures { OnOk result (self.new ≡ line_step place (line_of line.entry) self.old) }
     {
         self.end_step(place, line.terms, false, line.high)?;
@@ -229,7 +216,6 @@ impl Pass {
 
     // All rows, and then all cuts.
     pub fn walk(&mut self, rows: &[Row], cuts: &[Shared<Cut>]) -> Result<(), AllocError>
-        requires few { length self.old.lows ≤ 1000 }
         requires near { IsNear self.old }
         requires few_lines { length rows.now + length cuts.now ≤ 1200 }
         requires lines { AreLines (length self.old.lows) (lines_of rows.now cuts.now) }

@@ -4,6 +4,7 @@ ghost use Rattle.std.specs.Int.{int_min};
 ghost use Rattle.bl_num.specs.Exact.{floor_of};
 ghost use Rattle.bl_problem.specs.Sums.{IsWithin};
 ghost use Rattle.bl_problem.specs.Rows.{AreTerms};
+ghost use Rattle.bl_prop.specs.Limits.{IsSlack};
 ghost use Rattle.bl_prop.specs.Passes.{turned, least_of};
 
 use bl_num::{floor_div, product};
@@ -51,8 +52,7 @@ pub fn least_sum(terms: &[Term], negate: bool, lows: &[i64], highs: &[i64]) -> i
 // The most that an entry can be where its positive coefficient has that slack above its low.
 pub fn most(low: i64, slack: i128, coefficient: i64) -> i128
     requires near { IsWithin (10 ^ 9) low }
-    requires slack_low { pos 0 ≤ℤ slack }
-    requires slack_high { slack ≤ℤ pos (10 ^ 31) }
+    requires slack { IsSlack slack }
     requires positive { pos 1 ≤ℤ coefficient }
     ensures value { result ≡ low +ℤ floor_of slack coefficient }
     ensures above { pos 0 ≤ℤ (result +ℤ pos (10 ^ 9)) }
@@ -63,8 +63,7 @@ pub fn most(low: i64, slack: i128, coefficient: i64) -> i128
 // The least that an entry can be where its negative coefficient has that slack below its high.
 pub fn least(high: i64, slack: i128, coefficient: i64) -> i128
     requires near { IsWithin (10 ^ 9) high }
-    requires slack_low { pos 0 ≤ℤ slack }
-    requires slack_high { slack ≤ℤ pos (10 ^ 31) }
+    requires slack { IsSlack slack }
     requires negative { pos 1 ≤ℤ neg_ℤ coefficient }
     ensures value { result ≡ high -ℤ floor_of slack (neg_ℤ coefficient) }
     ensures below { result ≤ℤ pos (10 ^ 9) }

@@ -1,5 +1,5 @@
 //! The answer of a pass.
-ghost use Rattle.std.specs.Prelude.{◌≡◌, List, ℤ, length, IfOk, OnOk};
+ghost use Rattle.std.specs.Prelude.{◌≡◌, List, ℤ, length, IfOk};
 ghost use Rattle.bl_bound.specs.Descriptions.{Describes, IsLeft};
 ghost use Rattle.bl_prop.specs.Answers.{tightened_of, answer_by, IsTightened, Keeps};
 

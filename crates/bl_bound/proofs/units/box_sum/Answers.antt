@@ -14,9 +14,9 @@ use Rattle.bl_bound.proofs.units.box_sum.Goals as goal
 -- the part that this turn adds: it is exact, and small
 term : (c : goal.After-least-sum) → (c.least-sum.result ≡ least_at c.args.lows.now c.args.highs.now c.loop-j.j c.index-columns-j.result.cost) × IsWithin (10 ^ 24) c.least-sum.result
 term c =
-    let col : IsColumn c.index-columns-j.result = rw c.index-columns-j.is (All-get_or IsColumn c.args.columns.now c.loop-j.j c.index-columns-j.result c.loop-j-test.true c.requires.columns) in
-    let low = All-get_or (IsWithin (10 ^ 9)) c.args.lows.now c.loop-j.j (pos 0) (omega arith) c.requires.low_near in
-    let high = All-get_or (IsWithin (10 ^ 9)) c.args.highs.now c.loop-j.j (pos 0) (omega arith) c.requires.high_near in
+    let col : IsColumn c.index-columns-j.result = rw c.index-columns-j.is (All-get_or IsColumn c.args.columns.now c.loop-j.j c.index-columns-j.result c.loop-j-test.true c.requires.bounded.each) in
+    let low = All-get_or (IsWithin (10 ^ 9)) c.args.lows.now c.loop-j.j (pos 0) (omega arith) c.requires.bounded.near_lows in
+    let high = All-get_or (IsWithin (10 ^ 9)) c.args.highs.now c.loop-j.j (pos 0) (omega arith) c.requires.bounded.near_highs in
     least_is c.least-sum.result c.index-columns-j.result.cost (at c.args.lows.now c.loop-j.j) (at c.args.highs.now c.loop-j.j) (10 ^ 15) (rw (← c.index-columns-j.is) at c.least-sum.ensures) (omega arith) col.cost low high
 
 pub overflow_add-sum : goal.overflow_add-sum

@@ -31,9 +31,9 @@ loop-term-preserved c =
     let d : Term = record { column = 0; coefficient = pos 0 } in
     let t = get_or c.args.terms.now c.loop-term.term-index d in
     let h = c.requires.terms.each c.loop-term.term-index d c.loop-term-test.true in
-    let col : IsColumn c.index-columns-j.result = rw c.index-columns-j.is (All-get_or IsColumn c.args.columns.now t.column c.index-columns-j.result h.column c.requires.columns) in
-    let low = c.requires.low_near t.column (pos 0) (omega (arith, h.column, c.requires.low_width)) in
-    let high = c.requires.high_near t.column (pos 0) (omega (arith, h.column, c.requires.high_width)) in
+    let col : IsColumn c.index-columns-j.result = rw c.index-columns-j.is (All-get_or IsColumn c.args.columns.now t.column c.index-columns-j.result h.column c.requires.bounded.each) in
+    let low = c.requires.bounded.near_lows t.column (pos 0) (omega (arith, h.column, c.requires.bounded.low_width)) in
+    let high = c.requires.bounded.near_highs t.column (pos 0) (omega (arith, h.column, c.requires.bounded.high_width)) in
     let e = move_is c.part_move-sum.result c.index-columns-j.result.cost (at c.args.lows.now t.column) (at c.args.highs.now t.column) c.args.y t.coefficient
     (rw (← c.index-columns-j.is) at c.part_move-sum.ensures.exact) col.cost low high c.requires.unit h.coefficient in
     let k = at-map (λ (d : Column). d.cost) c.args.columns.now t.column c.index-columns-j.result h.column ∙ ap (λ (d : Column). d.cost) (sym c.index-columns-j.is) in

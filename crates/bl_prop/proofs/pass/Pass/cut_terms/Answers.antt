@@ -1,4 +1,4 @@
-use Rattle.std.proofs.Common.{pos, arith}
+use Rattle.std.proofs.Common.{pos}
 use Rattle.std.specs.Int.{w128}
 use Rattle.std.proofs.lemmas.Int.{to_z-of_z}
 use Rattle.bl_problem.specs.declared.problem.Term.{Term}
@@ -8,12 +8,11 @@ use Rattle.bl_prop.proofs.pass.Pass.cut_terms.Goals as goal
 pub cut_term-requires-clause-near : goal.cut_term-requires-clause-near
 cut_term-requires-clause-near c =
     let inv = rw (to_z-of_z w128 c.args.slack c.ranges.slack) at c.loop-term.invariant in
-    (front-near c.args.negate c.args.slack c.args.terms.now c.loop-term.term-index c.args.self.now c.loop-term.self c.requires.near c.requires.terms c.requires.slack_low inv).near
+    (front-near c.args.negate c.args.slack c.args.terms.now c.loop-term.term-index c.args.self.now c.loop-term.self c.requires.near c.requires.terms c.requires.slack.low inv).near
 
-pub cut_term-requires-clause-column : goal.cut_term-requires-clause-column
-cut_term-requires-clause-column c =
+pub cut_term-requires-clause-term : goal.cut_term-requires-clause-term
+cut_term-requires-clause-term c =
     let inv = rw (to_z-of_z w128 c.args.slack c.ranges.slack) at c.loop-term.invariant in
-    let s = front-near c.args.negate c.args.slack c.args.terms.now c.loop-term.term-index c.args.self.now c.loop-term.self c.requires.near c.requires.terms c.requires.slack_low inv in
+    let s = front-near c.args.negate c.args.slack c.args.terms.now c.loop-term.term-index c.args.self.now c.loop-term.self c.requires.near c.requires.terms c.requires.slack.low inv in
     let d : Term = record { column = 0; coefficient = pos 0 } in
-    let t = c.requires.terms.each c.loop-term.term-index d c.loop-term-test.true in
-    omega (arith, t.column, s.width)
+    rw s.width (c.requires.terms.each c.loop-term.term-index d c.loop-term-test.true)

@@ -18,7 +18,9 @@ value c =
     let f : FitsSigned w64 c.turned-size.result = record { sfits = c.turned-size.type_inv } in
     let g : FitsSigned w64 c.high.result = record { sfits = c.high.type_inv } in
     let h : FitsSigned w64 c.low.result = record { sfits = c.low.type_inv } in
-    let k : FitsSigned w64 (c.high.result -ℤ c.low.result) = omega (arith, ints, a, b) in
+    let l = c.requires.near.near_lows c.args.column (pos 0) c.requires.column in
+    let u = c.requires.near.near_highs c.args.column (pos 0) (omega (arith, c.requires.near.highs, c.requires.column)) in
+    let k : FitsSigned w64 (c.high.result -ℤ c.low.result) = omega (arith, ints, a, b, l, u) in
     let v = simp to_z-of_z at c.product.ensures.value in
     v ∙ ap (λ (z : ℤ). c.turned-size.result *ℤ (z -ℤ c.low.result)) a ∙ ap (λ (z : ℤ). c.turned-size.result *ℤ (at c.args.self.now.highs c.args.column -ℤ z)) b
 

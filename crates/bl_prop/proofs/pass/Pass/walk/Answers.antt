@@ -9,25 +9,18 @@ use Rattle.bl_prop.proofs.pass.Pass.walk.Goals as goal
 pub loop-place-init : goal.loop-place-init
 loop-place-init c = sym (walked-start (lines_of c.args.rows.now c.args.cuts.now) c.args.self.now)
 
-pub line_step-requires-clause-few : goal.line_step-requires-clause-few
-line_step-requires-clause-few c =
-    let n = length-lines_of c.args.rows.now c.args.cuts.now in
-    let s = lines-near c.loop-place.place (lines_of c.args.rows.now c.args.cuts.now) c.args.self.now c.loop-place.self (omega (arith, n, c.loop-place-test.true)) c.requires.near c.requires.lines c.loop-place.invariant in
-    omega (arith, s.width, c.requires.few)
-
 pub line_step-requires-clause-near : goal.line_step-requires-clause-near
 line_step-requires-clause-near c =
     let n = length-lines_of c.args.rows.now c.args.cuts.now in
     (lines-near c.loop-place.place (lines_of c.args.rows.now c.args.cuts.now) c.args.self.now c.loop-place.self (omega (arith, n, c.loop-place-test.true)) c.requires.near c.requires.lines c.loop-place.invariant).near
 
-pub line_step-requires-clause-terms : goal.line_step-requires-clause-terms
-line_step-requires-clause-terms c =
+pub line_step-requires-clause-line : goal.line_step-requires-clause-line
+line_step-requires-clause-line c =
     let n = length-lines_of c.args.rows.now c.args.cuts.now in
     let lines = lines_of c.args.rows.now c.args.cuts.now in
     let s = lines-near c.loop-place.place lines c.args.self.now c.loop-place.self (omega (arith, n, c.loop-place-test.true)) c.requires.near c.requires.lines c.loop-place.invariant in
-    let e = ap (λ (l : Line). l.terms) c.line.ensures in
     let d : Line = record { terms = []; low = None; high = None } in
-    rw (s.width, e) ((c.requires.lines c.loop-place.place d (omega (arith, n, c.loop-place-test.true))).terms)
+    rw (s.width, c.line.ensures) (c.requires.lines c.loop-place.place d (omega (arith, n, c.loop-place-test.true)))
 
 pub loop-place-preserved : goal.loop-place-preserved
 loop-place-preserved c =
