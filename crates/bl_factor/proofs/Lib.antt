@@ -5,6 +5,7 @@ pub mod EtaLemmas
 pub mod Exact
 pub mod ReductionLemmas
 pub mod Making
+pub mod SupportLemmas
 pub mod Pivots
 pub mod Narrow
 pub mod Quotients

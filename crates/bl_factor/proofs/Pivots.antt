@@ -1,101 +1,101 @@
--- The search for a pivot among an image's entries.
-use Rattle.std.proofs.Common.{◌≡◌, ℕ, zero, suc, ◌+◌, ◌<◌, ◌≤◌, ◌^◌, Bool, true, false, List, [], ◌∷◌, length, get_or, take, nat_eq, if◌then◌else◌, refl, sym, ap, inl, inr, ◌∙◌, subst, arith, unsigned_abs}
+-- What the places that cover an image's support at the open places, and at the closed ones, say of the image.
+use Rattle.std.proofs.Common.{◌≡◌, ◌≢◌, ℕ, ◌<◌, ◌^◌, Bool, true, false, List, ◌∷◌, length, get_or, if◌then◌else◌, refl, sym, ap, inl, inr, ◌∙◌, subst, arith, unsigned_abs}
 use Rattle.std.specs.List.{swap, All}
 use Rattle.std.proofs.lemmas.List.Elements.{All-from_get_or}
 use Rattle.std.proofs.lemmas.List.Edits.{length-swap}
-use Rattle.std.proofs.lemmas.Bool.{cases_eq}
-use Rattle.std.proofs.lemmas.Bool.Decides.{nat_tests, eqb_tells}
+use Rattle.std.proofs.lemmas.Bool.Decides.{eqb_tells}
 use Rattle.bl_fixed.specs.declared.Fixed.{Fixed}
-use Rattle.bl_factor.specs.declared.sparse.Entry.{Entry}
-use Rattle.bl_factor.specs.Vectors.{nought, is_nought, at, IsPivot, IsModerate}
-use Rattle.bl_factor.specs.Sparse.{IsSparse, IsSpanned, AreEntries, value_at}
-use Rattle.bl_factor.specs.Reduction.{flag, HasNoPivot}
-use Rattle.bl_factor.proofs.Columns.{at-swap}
-use Rattle.bl_factor.proofs.Numbers.{is_nought-true}
-use Rattle.bl_factor.proofs.SparseLemmas.{no_entry, next_entry, value_at-first, value_at-later, value_at-take_more}
+use Rattle.bl_factor.specs.Vectors.{nought, at, IsModerate}
+use Rattle.bl_factor.specs.Reduction.{flag, part_entry, part_of, CanPivot, HasNoPivot}
+use Rattle.bl_factor.specs.Support.{IsRising, is_listed, CoversSupport, restricted, IsPivotRow}
+use Rattle.bl_factor.proofs.Columns.{at-swap, same_column_of}
+use Rattle.bl_factor.proofs.SupportLemmas.{rising-below, listed-all}
 
--- at the open rows of these entries no number is larger
-abbrev pub IsBound : List Fixed → List Bool → List Entry → ℕ → Type 0
-IsBound image is_open es most = (i : ℕ) → i < length image → flag is_open i ≡ true → is_nought (value_at es i) ≡ false → unsigned_abs (at image i).raw ≤ most
+true_false : true ≡ false → ⊥
+true_false e = cc
 
-pub IsBound-more : (image : List Fixed) (is_open : List Bool) (es : List Entry) (k most next : ℕ) → IsSparse 0 (length image) es → k < length es → most ≤ next →
-    (flag is_open (get_or es k no_entry).place ≡ true → unsigned_abs (at image (get_or es k no_entry).place).raw ≤ next) →
-    IsBound image is_open (take k es) most → IsBound image is_open (take (k + 1) es) next
-IsBound-more image is_open es k most next s h m here before i l o f =
-    let e = get_or es k no_entry in
-    let v = value_at-take_more 0 (length image) es k i s h in
-    elim (eqb_tells e.place i) [
-      | inl q ↦ subst (λ (j : ℕ). unsigned_abs (at image j).raw ≤ next) q.1 (here (ap (flag is_open) q.1 ∙ o))
-      | inr q ↦
-          let u : value_at (take (k + 1) es) i ≡ value_at (take k es) i = v ∙ ap (λ (b : Bool). if b then e.value else value_at (take k es) i) q.0 in
-          let b = before i l o (sym (ap is_nought u) ∙ f) in
-          omega (arith, b, m)
-    ]
+by_flag : {P : Type 0} (b : Bool) → (b ≡ true → P) → (b ≡ false → P) → P
+by_flag true t f = t refl
+by_flag false t f = f refl
 
--- the entry at a place, where none is excepted
-at-entries : (column : List Fixed) (es : List Entry) (i : ℕ) → i < length column → AreEntries column (length column) es → value_at es i ≡ at column i
-at-entries column es i l a =
-    let t : nat_eq i (length column) ≡ false = grind (arith, nat_tests, l) in
-    a.values i l ∙ ap (λ (b : Bool). if b then nought else at column i) t
+-- ---- the search for a pivot
+pub CanPivot-row : (image : List Fixed) (is_open : List Bool) (rows : List ℕ) (row : ℕ) → CoversSupport image is_open true (length image) rows → IsPivotRow image rows row →
+    CanPivot image is_open row
+CanPivot-row image is_open rows row c p = record {
+  row_in = p.row_in;
+  opened = c.flagged row p.row_in p.listed;
+  pivot = p.pivot;
+}
 
--- a bound for the entries is one for the open rows
-pub HasNoPivot-bound : (image : List Fixed) (is_open : List Bool) (es : List Entry) (most : ℕ) → AreEntries image (length image) es → most < 2 ^ 20 → IsBound image is_open es most → HasNoPivot image is_open
-HasNoPivot-bound image is_open es most a m b row l o = by (is_nought (at image row)) refl
-  where
-    by : (t : Bool) → is_nought (at image row) ≡ t → unsigned_abs (at image row).raw < 2 ^ 20
-    by true e = let z = is_nought-true (at image row) e in subst (λ (x : Fixed). unsigned_abs x.raw < 2 ^ 20) (sym z) (omega arith)
-    by false e = let c = b row l o (ap is_nought (at-entries image es row l a) ∙ e) in omega (arith, c, m)
+pub HasNoPivot-rows : (image : List Fixed) (is_open : List Bool) (rows : List ℕ) → CoversSupport image is_open true (length image) rows →
+    All (λ p. unsigned_abs (at image p).raw < 2 ^ 20) rows → HasNoPivot image is_open
+HasNoPivot-rows image is_open rows c a row l o = by_flag (is_listed rows row)
+    (λ t. listed-all (λ p. unsigned_abs (at image p).raw < 2 ^ 20) rows row a t)
+    (λ f. subst (λ (x : Fixed). unsigned_abs x.raw < 2 ^ 20) (sym (c.elsewhere row l o f)) (omega arith))
 
--- an image's entries have the places of the image after a swap, but for the place that gets the pivot
-pub IsSpanned-swap : (image ys : List Fixed) (place row : ℕ) (es : List Entry) → ys ≡ swap image place row → place < length image → row < length image →
-    IsPivot (at image row) → AreEntries image (length image) es → IsSpanned ys place es
-IsSpanned-swap image ys place row es y h k p a =
-    let s = at-swap image place row h k in
+-- ---- the columns of the factors
+-- after the swap
+pub open_part : (image ys : List Fixed) (is_open : List Bool) (rows : List ℕ) (place row : ℕ) → CoversSupport image is_open true (length image) rows → IsPivotRow image rows row →
+    ys ≡ swap image place row → place < length image → flag is_open place ≡ true → restricted ys (place ∷ rows) ≡ part_of ys is_open true
+open_part image ys is_open rows place row c p y h o =
     let n : length ys ≡ length image = ap length y ∙ length-swap image place row in
-    record {
-      sparse = subst (λ (j : ℕ). IsSparse 0 j es) (sym n) a.sparse;
-      elsewhere = λ i l ne z.
-          let l' : i < length image = omega (arith, l, n) in
-          let w : at image i ≡ nought = sym (at-entries image es i l' a) ∙ z in
-          elim (cases_eq i row) [
-            | inl q ↦
-                let f : at image row ≡ nought = ap (at image) (sym q) ∙ w in
-                absurd (none (at image row) f p)
-            | inr q ↦ ap (λ (xs : List Fixed). at xs i) y ∙ s.2 i ne q ∙ w
-          ];
-    }
-  where
-    none : (x : Fixed) → x ≡ nought → IsPivot x → ⊥
-    none x e p = let q = subst (λ (x : Fixed). IsPivot x) e p in omega (arith, q)
+    let s = at-swap image place row h p.row_in in
+    same_column_of (length ys) _ (part_entry ys is_open true) (λ i l.
+    let l' : i < length image = omega (arith, l, n) in
+    let kept : flag is_open i ≡ true → part_entry ys is_open true i ≡ at ys i = λ f. ap (λ (b : Bool). if b then at ys i else nought) f in
+    elim (eqb_tells place i) [
+      | inl q ↦
+          ap (λ (b : Bool). if (if b then true else is_listed rows i) then at ys i else nought) q.0
+          ∙ sym (kept (ap (flag is_open) (sym q.1) ∙ o))
+      | inr q ↦
+          ap (λ (b : Bool). if (if b then true else is_listed rows i) then at ys i else nought) q.0
+          ∙ by_flag (is_listed rows i)
+          (λ t. ap (λ (b : Bool). if b then at ys i else nought) t ∙ sym (kept (c.flagged i l' t)))
+          (λ t. ap (λ (b : Bool). if b then at ys i else nought) t ∙ sym (by_flag (flag is_open i)
+          (λ f.
+          let apart : i ≢ row = λ e. true_false (sym p.listed ∙ ap (is_listed rows) (sym e) ∙ t) in
+          let other : at ys i ≡ at image i = ap (λ (xs : List Fixed). at xs i) y ∙ s.2 i (λ e. q.1 (sym e)) apart in
+          kept f ∙ other ∙ c.elsewhere i l' f t)
+          (λ f. ap (λ (b : Bool). if b then at ys i else nought) f)))
+    ])
 
--- ---- numbers of entries
-entry_value : (low n : ℕ) (es : List Entry) (k : ℕ) → IsSparse low n es → k < length es → value_at es (get_or es k no_entry).place ≡ (get_or es k no_entry).value
-entry_value low n [] k s h = absurd (omega arith)
-entry_value low n (e ∷ es) zero s h = value_at-first e es e.place refl
-entry_value low n (e ∷ es) (suc k) s h =
-    let x = next_entry (suc e.place) n es k no_entry s.3 (omega arith) in
-    value_at-later e es (get_or es k no_entry).place (omega (arith, x.from)) ∙ entry_value (suc e.place) n es k s.3 (omega arith)
+-- the swap leaves the closed places alone
+closed_kept : (image ys : List Fixed) (is_open : List Bool) (rows : List ℕ) (place row i : ℕ) → CoversSupport image is_open true (length image) rows → IsPivotRow image rows row →
+    ys ≡ swap image place row → place < length image → flag is_open place ≡ true → flag is_open i ≡ false → at ys i ≡ at image i
+closed_kept image ys is_open rows place row i c p y h o f =
+    let s = at-swap image place row h p.row_in in
+    let from_place : i ≢ place = λ e. true_false (sym o ∙ ap (flag is_open) (sym e) ∙ f) in
+    let from_row : i ≢ row = λ e. true_false (sym (c.flagged row p.row_in p.listed) ∙ ap (flag is_open) (sym e) ∙ f) in
+    ap (λ (xs : List Fixed). at xs i) y ∙ s.2 i from_place from_row
 
+pub closed_part : (image ys : List Fixed) (is_open : List Bool) (rows places : List ℕ) (place row : ℕ) → CoversSupport image is_open true (length image) rows →
+    IsPivotRow image rows row → ys ≡ swap image place row → place < length image → flag is_open place ≡ true → CoversSupport image is_open false (length image) places →
+    restricted ys places ≡ part_of ys is_open false
+closed_part image ys is_open rows places place row c p y h o d =
+    let n : length ys ≡ length image = ap length y ∙ length-swap image place row in
+    same_column_of (length ys) _ (part_entry ys is_open false) (λ i l.
+    let l' : i < length image = omega (arith, l, n) in
+    let kept : flag is_open i ≡ false → part_entry ys is_open false i ≡ at ys i = λ f. ap (λ (b : Bool). if b then nought else at ys i) f in
+    by_flag (is_listed places i)
+    (λ t. ap (λ (b : Bool). if b then at ys i else nought) t ∙ sym (kept (d.flagged i l' t)))
+    (λ t. ap (λ (b : Bool). if b then at ys i else nought) t ∙ sym (by_flag (flag is_open i)
+    (λ f. ap (λ (b : Bool). if b then nought else at ys i) f)
+    (λ f. kept f ∙ closed_kept image ys is_open rows place row i c p y h o f ∙ d.elsewhere i l' f t))))
+
+-- ---- large numbers
 abbrev moderate : Fixed → Type 0
 moderate x = unsigned_abs x.raw < 2 ^ 87
 
-value_at-moderate : (es : List Entry) (i : ℕ) → ((k : ℕ) → k < length es → moderate (get_or es k no_entry).value) → moderate (value_at es i)
-value_at-moderate [] i m = omega arith
-value_at-moderate (e ∷ es) i m = elim (eqb_tells e.place i) [
-  | inl p ↦ subst moderate (sym (ap (λ (b : Bool). if b then e.value else value_at es i) p.0)) (m 0 (omega arith))
-  | inr p ↦
-      subst moderate (sym (ap (λ (b : Bool). if b then e.value else value_at es i) p.0))
-      (value_at-moderate es i (λ k h. m (suc k) (omega arith)))
-]
+pub moderate-listed : (column : List Fixed) (ps : List ℕ) → IsRising 0 (length column) ps → IsModerate column → All (λ p. unsigned_abs (at column p).raw < 2 ^ 87) ps
+moderate-listed column ps r m =
+    All-from_get_or (λ p. unsigned_abs (at column p).raw < 2 ^ 87) ps 0 (λ k h. m (get_or ps k 0) nought (rising-below 0 (length column) ps r k 0 h))
 
-pub IsModerate-entries : (column : List Fixed) (es : List Entry) → AreEntries column (length column) es → All (λ (e : Entry). unsigned_abs e.value.raw < 2 ^ 87) es → IsModerate column
-IsModerate-entries column es a m =
-    All-from_get_or moderate column nought (λ i l. subst moderate (at-entries column es i l a) (value_at-moderate es i (λ k h. m k no_entry h)))
-
-pub entries-moderate : (column : List Fixed) (es : List Entry) → AreEntries column (length column) es → IsModerate column → All (λ (e : Entry). unsigned_abs e.value.raw < 2 ^ 87) es
-entries-moderate column es a m =
-    All-from_get_or (λ (e : Entry). unsigned_abs e.value.raw < 2 ^ 87) es no_entry (λ k h.
-    let e = get_or es k no_entry in
-    let x = next_entry 0 (length column) es k no_entry a.sparse h in
-    let v : e.value ≡ at column e.place = sym (entry_value 0 (length column) es k a.sparse h) ∙ at-entries column es e.place x.below a in
-    subst moderate (sym v) (m e.place nought x.below))
+pub IsModerate-parts : (image : List Fixed) (is_open : List Bool) (rows places : List ℕ) → CoversSupport image is_open true (length image) rows →
+    CoversSupport image is_open false (length image) places → All (λ p. unsigned_abs (at image p).raw < 2 ^ 87) rows →
+    All (λ p. unsigned_abs (at image p).raw < 2 ^ 87) places → IsModerate image
+IsModerate-parts image is_open rows places c d a b =
+    let P = λ (p : ℕ). unsigned_abs (at image p).raw < 2 ^ 87 in
+    let small : (x : Fixed) → x ≡ nought → moderate x = λ x e. subst moderate (sym e) (omega arith) in
+    All-from_get_or moderate image nought (λ i l. by_flag (flag is_open i)
+    (λ f. by_flag (is_listed rows i) (λ t. listed-all P rows i a t) (λ t. small (at image i) (c.elsewhere i l f t)))
+    (λ f. by_flag (is_listed places i) (λ t. listed-all P places i b t) (λ t. small (at image i) (d.elsewhere i l f t))))

@@ -6,7 +6,6 @@ use Rattle.std.proofs.lemmas.List.Edits.{length-swap}
 use Rattle.std.proofs.lemmas.List.Sums.{fold-append}
 use Rattle.std.proofs.lemmas.Bool.{eq-eqb, cases_eq}
 use Rattle.std.proofs.lemmas.Bool.Decides.{nat_tests, eqb_tells}
-use mathlib.Core.Bool.{beq}
 use Rattle.bl_fixed.specs.declared.Fixed.{Fixed}
 use Rattle.bl_factor.specs.Vectors.{nought, unity, at, unit_entry, unit_column, IsPivot, IsModerate}
 use Rattle.bl_factor.specs.Elimination.{Elimination, less_multiple, eliminated, image_under}
@@ -225,33 +224,6 @@ IsReduction-close matrix is_open lower upper after place row ys sq long hp hr op
   where
     not_both : true ≡ false → ⊥
     not_both e = cc
-
--- the code's test of a part
-pub part_entry-kept : (column : List Fixed) (is_open : List Bool) (of_open : Bool) (i : ℕ) (opened : Bool) → flag is_open i ≡ opened → beq opened of_open ≡ true →
-    part_entry column is_open of_open i ≡ at column i
-part_entry-kept column is_open true i true f t = ap (λ (b : Bool). if b then at column i else nought) f
-part_entry-kept column is_open true i false f t = cc
-part_entry-kept column is_open false i true f t = cc
-part_entry-kept column is_open false i false f t = ap (λ (b : Bool). if b then nought else at column i) f
-
-pub part_entry-dropped : (column : List Fixed) (is_open : List Bool) (of_open : Bool) (i : ℕ) (opened : Bool) → flag is_open i ≡ opened → beq opened of_open ≡ false →
-    part_entry column is_open of_open i ≡ nought
-part_entry-dropped column is_open true i true f t = cc
-part_entry-dropped column is_open true i false f t = ap (λ (b : Bool). if b then at column i else nought) f
-part_entry-dropped column is_open false i true f t = ap (λ (b : Bool). if b then nought else at column i) f
-part_entry-dropped column is_open false i false f t = cc
-
-pub part_entry-nought : (column : List Fixed) (is_open : List Bool) (of_open : Bool) (i : ℕ) → at column i ≡ nought → part_entry column is_open of_open i ≡ nought
-part_entry-nought column is_open true i e = ap (λ (y : Fixed). if flag is_open i then y else nought) e ∙ same (flag is_open i)
-  where
-    same : (b : Bool) → (if b then nought else nought) ≡ nought
-    same true = refl
-    same false = refl
-part_entry-nought column is_open false i e = ap (λ (y : Fixed). if flag is_open i then nought else y) e ∙ same (flag is_open i)
-  where
-    same : (b : Bool) → (if b then nought else nought) ≡ nought
-    same true = refl
-    same false = refl
 
 pub map-reverse : {A B : Type 0} (f : A → B) (xs : List A) → map f (reverse xs) ≡ reverse (map f xs)
 map-reverse f [] = refl

@@ -10,7 +10,7 @@ use Rattle.bl_factor.specs.Vectors.{nought, is_nought, at}
 use Rattle.std.specs.List.{fold}
 use Rattle.bl_fixed.specs.Fixed.{saturated_difference, saturated_product}
 use Rattle.bl_factor.specs.Elimination.{less_multiple, taken_off}
-use Rattle.bl_factor.specs.Sparse.{IsSparse, value_at, AreEntries}
+use Rattle.bl_factor.specs.Sparse.{IsSparse, value_at}
 
 -- outside of the entries' range the column is 0
 pub value_at-below : (low n : ℕ) (es : List Entry) (i : ℕ) → IsSparse low n es → i < low → value_at es i ≡ nought
@@ -243,7 +243,7 @@ pub record Picks (column : List Fixed) (except : ℕ) (es part : List Entry) : T
   pub sparse : (m : ℕ) → IsSparse 0 m es → IsSparse 0 m part
   pub values : (i : ℕ) → i < length column → value_at part i ≡ (if is_nought (value_at es i) then nought else but_for column except i)
 
-nought_either : (b : Bool) → (if b then nought else nought) ≡ nought
+pub nought_either : (b : Bool) → (if b then nought else nought) ≡ nought
 nought_either true = refl
 nought_either false = refl
 
@@ -291,32 +291,3 @@ Picks-same column except es part e s z p = record {
             p.values i l ∙ sym (ap (λ (y : Fixed). if is_nought y then nought else but_for column except i) v)
       ];
 }
-
-pub Picks-excepted : (column : List Fixed) (except : ℕ) (es part : List Entry) (e : Entry) → IsSparse 0 e.place es → e.place ≡ except →
-    Picks column except es part → Picks column except (es ++ e ∷ []) part
-Picks-excepted column except es part e s q p =
-    Picks-same column except es part e s (ap (λ (b : Bool). if b then nought else at column e.place) (eq-eqb e.place except q)) p
-
-pub Picks-nought : (column : List Fixed) (except : ℕ) (es part : List Entry) (e : Entry) → IsSparse 0 e.place es → at column e.place ≡ nought →
-    Picks column except es part → Picks column except (es ++ e ∷ []) part
-Picks-nought column except es part e s z p =
-    Picks-same column except es part e s (ap (λ (y : Fixed). if nat_eq e.place except then nought else y) z ∙ nought_either (nat_eq e.place except)) p
-
--- where the column has no other numbers, they are its entries
-pub Picks-all : (column : List Fixed) (except : ℕ) (es part : List Entry) → IsSparse 0 (length column) es →
-    ((i : ℕ) → i < length column → i ≢ except → is_nought (value_at es i) ≡ true → at column i ≡ nought) → Picks column except es part → AreEntries column except part
-Picks-all column except es part s h p = record {
-  sparse = p.sparse (length column) s;
-  values = λ i l. by i l (is_nought (value_at es i)) refl;
-}
-  where
-    by : (i : ℕ) → i < length column → (t : Bool) → is_nought (value_at es i) ≡ t → value_at part i ≡ but_for column except i
-    by i l false e = p.values i l ∙ ap (λ (y : Bool). if y then nought else but_for column except i) e
-    by i l true e = elim (eqb_tells i except) [
-      | inl q ↦
-          p.values i l ∙ ap (λ (y : Bool). if y then nought else but_for column except i) e
-          ∙ sym (ap (λ (b : Bool). if b then nought else at column i) q.0)
-      | inr q ↦
-          p.values i l ∙ ap (λ (y : Bool). if y then nought else but_for column except i) e
-          ∙ sym (ap (λ (b : Bool). if b then nought else at column i) q.0 ∙ h i l q.1 e)
-    ]

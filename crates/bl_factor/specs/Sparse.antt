@@ -1,5 +1,5 @@
 -- Columns without their zeros: entries by rising place.
-use Rattle.std.specs.Prelude.{◌≡◌, ◌≢◌, ℕ, suc, false, List, [], ◌∷◌, ◌<◌, ◌≤◌, length, map, nat_eq, if◌then◌else◌}
+use Rattle.std.specs.Prelude.{◌≡◌, ℕ, suc, false, List, [], ◌∷◌, ◌<◌, ◌≤◌, length, map, nat_eq, if◌then◌else◌}
 use Rattle.std.specs.List.{All}
 use Rattle.std.specs.Global.{Vec}
 use Rattle.bl_fixed.specs.declared.Fixed.{Fixed}
@@ -24,11 +24,6 @@ dense n es = column_of n (value_at es)
 pub record AreEntries (column : List Fixed) (except : ℕ) (es : List Entry) : Type 0 where
   pub sparse : IsSparse 0 (length column) es
   pub values : (i : ℕ) → i < length column → value_at es i ≡ (if nat_eq i except then nought else at column i)
-
--- at each place without an entry, but for the one at `except`, the column is 0
-pub record IsSpanned (column : List Fixed) (except : ℕ) (es : List Entry) : Type 0 where
-  pub sparse : IsSparse 0 (length column) es
-  pub elsewhere : (i : ℕ) → i < length column → i ≢ except → value_at es i ≡ nought → at column i ≡ nought
 
 -- columns, and the matrix of them
 abbrev pub AreColumns : ℕ → List (Vec Entry) → Type 0

@@ -1,12 +1,13 @@
 // Making a product anew from the columns of its matrix: lower factors that clear each column at the open places, and upper
 // ones that clear the rest, the last first.
-ghost use Rattle.std.specs.Prelude.{◌≡◌, ◌<◌, ◌≤◌, ◌^◌, ◌⊎◌, ◌++◌, ◌∷◌, [], ℕ, true, false, length, IsTrue, ◌↔◌, IfOk, OnOk, IfSome, IfNone, map, unsigned_abs};
+ghost use Rattle.std.specs.Prelude.{◌≡◌, ◌<◌, ◌≤◌, ◌^◌, ◌⊎◌, ◌++◌, ◌∷◌, [], ℕ, true, false, length, IsTrue, ◌↔◌, IfOk, OnOk, IfSome, IfNone, map, slice_set, unsigned_abs};
 ghost use Rattle.std.specs.List.{All};
-ghost use Rattle.bl_factor.specs.Vectors.{at, unit_column, IsPivot, IsModerate};
+ghost use Rattle.bl_factor.specs.Vectors.{at, unity, unit_column, IsPivot};
 ghost use Rattle.bl_factor.specs.Elimination.{image_under};
 ghost use Rattle.bl_factor.specs.Factored.{column_at, TakesToUnits};
-ghost use Rattle.bl_factor.specs.Reduction.{flag, part_of, lower_step, upper_step, CanPivot, HasNoPivot, IsStuck};
-ghost use Rattle.bl_factor.specs.Sparse.{IsSpanned, AreEntries, AreColumns, matrix_of};
+ghost use Rattle.bl_factor.specs.Reduction.{flag, IsStuck};
+ghost use Rattle.bl_factor.specs.Sparse.{AreEntries, AreColumns, matrix_of};
+ghost use Rattle.bl_factor.specs.Support.{IsRising, restricted, IsPivotRow};
 ghost use Rattle.bl_factor.specs.Etas.{IsEta, AreEtas, elimination_of, eliminations};
 ghost use Rattle.bl_factor.specs.Others.{listed, widened};
 
@@ -14,7 +15,7 @@ use crate::eta::Eta;
 use crate::ordering::Order;
 use crate::others::{NarrowEntry, Others};
 use crate::sparse::Entry;
-use crate::{division, eta, ordering, sparse};
+use crate::{division, eta, ordering, sparse, support};
 use bl_fixed::Fixed;
 use std::alloc::{AllocError, Global};
 
@@ -40,17 +41,21 @@ pub(crate) fn made_anew(
     ensures stuck { IfOk result (λ o. IfNone o (IsStuck (matrix_of (length columns.now) columns.now))) }
 {
     let mut reduction = Reduction::new(alloc, columns)?;
-    let mut buffer = Vec::from_elem(alloc, Fixed { raw: 0 }, columns.len())?;
-    let image = buffer.as_mut_slice();
+    let mut image_buffer = Vec::from_elem(alloc, Fixed { raw: 0 }, columns.len())?;
+    let image = image_buffer.as_mut_slice();
+    let mut open_buffer = Vec::from_elem(alloc, 0u32, columns.len())?;
+    let at_open = open_buffer.as_mut_slice();
+    let mut closed_buffer = Vec::from_elem(alloc, 0u32, columns.len())?;
+    let at_closed = closed_buffer.as_mut_slice();
     for step in 0..columns.len() {
         let place = reduction.place_of(step);
-        if !reduction.close(alloc, columns, place, image)? {
+        if !reduction.close(alloc, columns, place, image, at_open, at_closed)? {
             return Ok(None);
         }
     }
     // All are closed by now; to see it here spares a proof that no place was missed above.
     for place in 0..columns.len() {
-        if !reduction.close(alloc, columns, place, image)? {
+        if !reduction.close(alloc, columns, place, image, at_open, at_closed)? {
             return Ok(None);
         }
     }
@@ -82,11 +87,15 @@ impl Reduction {
     {
         let is_open = open_places(alloc, columns)?;
         let order = ordering::order_of(alloc, columns, is_open.as_slice())?;
+        let steps = order.places.len();
+        // Room for the upper factors too, which come behind the lower ones.
+        let lower = Vec::with_capacity(alloc, steps.saturating_mul(2))?;
+        let upper = Vec::with_capacity(alloc, steps)?;
         Ok(Reduction {
             is_open,
             order,
-            lower: Vec::new(alloc),
-            upper: Vec::new(alloc),
+            lower,
+            upper,
         })
     }
 
@@ -95,15 +104,20 @@ impl Reduction {
         self.order.places.get(step).copied().unwrap_or(usize::MAX)
     }
 
-    // Closes a place, unless it is closed, or a pivot is too small or a number too large. `image` is for its work.
+    // Closes a place, unless it is closed, or a pivot is too small or a number too large. `image`, `at_open` and
+    // `at_closed` are for its work.
     fn close(
         &mut self,
         alloc: Global,
         columns: &[Vec<Entry>],
         place: usize,
         image: &mut [Fixed],
+        at_open: &mut [u32],
+        at_closed: &mut [u32],
     ) -> Result<bool, AllocError>
         requires long { length image.old ≡ length columns.now }
+        requires open_long { length at_open.old ≡ length columns.now }
+        requires closed_long { length at_closed.old ≡ length columns.now }
         requires short { length columns.now < 2 ^ 32 }
         requires columns { AreColumns (length columns.now) columns.now }
         requires reduces { Reduces columns.now self.old }
@@ -113,7 +127,7 @@ impl Reduction {
         ensures stuck { IfOk result (λ closed. closed ≡ false → IsStuck (matrix_of (length columns.now) columns.now)) }
     {
         if self.is_open.get(place) == Some(&true) {
-            self.close_open(alloc, columns, place, image)
+            self.close_open(alloc, columns, place, image, at_open, at_closed)
         } else {
             Ok(true)
         }
@@ -126,8 +140,12 @@ impl Reduction {
         columns: &[Vec<Entry>],
         place: usize,
         image: &mut [Fixed],
+        at_open: &mut [u32],
+        at_closed: &mut [u32],
     ) -> Result<bool, AllocError>
         requires long { length image.old ≡ length columns.now }
+        requires open_long { length at_open.old ≡ length columns.now }
+        requires closed_long { length at_closed.old ≡ length columns.now }
         requires short { length columns.now < 2 ^ 32 }
         requires columns { AreColumns (length columns.now) columns.now }
         requires reduces { Reduces columns.now self.old }
@@ -138,19 +156,23 @@ impl Reduction {
         ensures stuck { IfOk result (λ closed. closed ≡ false → IsStuck (matrix_of (length columns.now) columns.now)) }
     {
         leave_image(columns, place, self.lower.as_slice(), image);
-        let found = sparse::entries_of(alloc, image, columns.len())?;
-        let entries = found.as_slice();
         let is_open = self.is_open.as_slice();
-        let Some(row) = pivot_row(image, entries, is_open, self.order.ranks.as_slice()) else {
+        let counts = support::support_of(image, is_open, at_open, at_closed);
+        let rows = &at_open[..counts.flagged];
+        let others = &at_closed[..counts.others];
+        let Some(row) = pivot_row(image, rows, self.order.ranks.as_slice()) else {
             return Ok(false);
         };
-        if !are_moderate(entries) {
+        if !are_moderate(image, rows) {
+            return Ok(false);
+        }
+        if !are_moderate(image, others) {
             return Ok(false);
         }
         image.swap(place, row);
         self.order.ranks.swap(place, row);
-        let lower = lower_factor(alloc, image, entries, is_open, place, row)?;
-        let upper = upper_factor(alloc, image, entries, is_open, place)?;
+        let lower = lower_factor(alloc, image, rows, place, row)?;
+        let upper = upper_factor(alloc, image, others, place)?;
         self.lower.push(lower)?;
         push_unless_unit(&mut self.upper, upper)?;
         self.is_open[place] = false;
@@ -189,12 +211,17 @@ fn open_places(alloc: Global, columns: &[Vec<Entry>]) -> Result<Vec<bool>, Alloc
     Ok(is_open)
 }
 
-fn are_moderate(entries: &[Entry]) -> bool
-    ensures { IsTrue result ↔ All (λ e. unsigned_abs e.value.raw < 2 ^ 87) entries.now }
+// Whether no number at these places is too large.
+fn are_moderate(image: &[Fixed], places: &[u32]) -> bool
+    requires places { All (λ p. p < length image.now) places.now }
+    ensures { IsTrue result ↔ All (λ p. unsigned_abs (at image.now p).raw < 2 ^ 87) places.now }
 {
-    entries
-        .iter()
-        .all(|entry| entry.value.raw.unsigned_abs() < LEAST_IMMODERATE)
+    for place in places {
+        if LEAST_IMMODERATE <= image[*place as usize].raw.unsigned_abs() {
+            return false;
+        }
+    }
+    true
 }
 
 // Leaves in `image` that of a column.
@@ -210,23 +237,19 @@ fn leave_image(columns: &[Vec<Entry>], place: usize, etas: &[Eta], image: &mut [
     eta::apply_all(etas, image);
 }
 
-// The entries of an image at the open places, or at the closed ones, but for the one at `except`. It has none but at
-// the places of the given ones.
+// The entries of an image at these places, but for the one at `except`.
 fn part_others(
     alloc: Global,
     image: &[Fixed],
-    entries: &[Entry],
-    is_open: &[bool],
-    of_open: bool,
+    places: &[u32],
     except: usize,
 ) -> Result<Others, AllocError>
-    requires flagged { length is_open.now ≡ length image.now }
-    requires spanned { IsSpanned image.now except entries.now }
-    ensures { IfOk result (λ others. AreEntries (part_of image.now is_open.now of_open) except (listed others)) }
+    requires { IsRising 0 (length image.now) places.now }
+    ensures { IfOk result (λ others. AreEntries (restricted image.now places.now) except (listed others)) }
 {
-    match narrow_part(alloc, image, entries, is_open, of_open, except)? {
+    match narrow_part(alloc, image, places, except)? {
         Some(part) => Ok(Others::Narrow(part)),
-        None => Ok(Others::Wide(part_entries(alloc, image, entries, is_open, of_open, except)?)),
+        None => Ok(Others::Wide(part_entries(alloc, image, places, except)?)),
     }
 }
 
@@ -234,26 +257,23 @@ fn part_others(
 fn narrow_part(
     alloc: Global,
     image: &[Fixed],
-    entries: &[Entry],
-    is_open: &[bool],
-    of_open: bool,
+    places: &[u32],
     except: usize,
 ) -> Result<Option<Vec<NarrowEntry>>, AllocError>
-    requires flagged { length is_open.now ≡ length image.now }
-    requires spanned { IsSpanned image.now except entries.now }
-    ensures { IfOk result (λ o. IfSome o (λ part. AreEntries (part_of image.now is_open.now of_open) except (map widened part.items))) }
+    requires { IsRising 0 (length image.now) places.now }
+    ensures { IfOk result (λ o. IfSome o (λ part. AreEntries (restricted image.now places.now) except (map widened part.items))) }
 {
-    let mut part = Vec::with_capacity(alloc, entries.len())?;
-    for entry in entries {
-        let place = entry.place as usize;
+    let mut part = Vec::with_capacity(alloc, places.len())?;
+    for listed in places {
+        let place = *listed as usize;
         let value = image[place];
-        if value.raw != 0 && place != except && is_open[place] == of_open {
+        if value.raw != 0 && place != except {
             let Ok(raw) = i64::try_from(value.raw) else {
                 return Ok(None);
             };
             part.push(NarrowEntry {
                 raw,
-                place: entry.place,
+                place: *listed,
             })?;
         }
     }
@@ -264,23 +284,20 @@ fn narrow_part(
 fn part_entries(
     alloc: Global,
     image: &[Fixed],
-    entries: &[Entry],
-    is_open: &[bool],
-    of_open: bool,
+    places: &[u32],
     except: usize,
 ) -> Result<Vec<Entry>, AllocError>
-    requires flagged { length is_open.now ≡ length image.now }
-    requires spanned { IsSpanned image.now except entries.now }
-    ensures { IfOk result (λ part. AreEntries (part_of image.now is_open.now of_open) except part.items) }
+    requires { IsRising 0 (length image.now) places.now }
+    ensures { IfOk result (λ part. AreEntries (restricted image.now places.now) except part.items) }
 {
-    let mut part = Vec::with_capacity(alloc, entries.len())?;
-    for entry in entries {
-        let place = entry.place as usize;
+    let mut part = Vec::with_capacity(alloc, places.len())?;
+    for listed in places {
+        let place = *listed as usize;
         let value = image[place];
-        if value.raw != 0 && place != except && is_open[place] == of_open {
+        if value.raw != 0 && place != except {
             part.push(Entry {
-                place: entry.place,
                 value,
+                place: *listed,
             })?;
         }
     }
@@ -288,25 +305,24 @@ fn part_entries(
 }
 
 // The factor that clears the open places but one of an image, whose entries at `place` and `row` have changed places.
+// The given places are open ones.
 fn lower_factor(
     alloc: Global,
     image: &[Fixed],
-    entries: &[Entry],
-    is_open: &[bool],
+    places: &[u32],
     place: usize,
     row: usize,
 ) -> Result<Eta, AllocError>
     requires short { length image.now < 2 ^ 32 }
-    requires flagged { length is_open.now ≡ length image.now }
-    requires spanned { IsSpanned image.now place entries.now }
+    requires rising { IsRising 0 (length image.now) places.now }
     requires place_in { place < length image.now }
     requires row_in { row < length image.now }
-    requires is_open { flag is_open.now place ≡ true }
     requires pivot { IsPivot (at image.now place) }
     ensures eta { IfOk result (IsEta (length image.now)) }
-    ensures value { IfOk result (λ eta. elimination_of (length image.now) eta ≡ lower_step image.now is_open.now place row) }
+    ensures value { IfOk result (λ eta. elimination_of (length image.now) eta ≡
+        record { place = place; row = row; column = restricted image.now (place ∷ places.now) }) }
 {
-    let others = part_others(alloc, image, entries, is_open, true, place)?;
+    let others = part_others(alloc, image, places, place)?;
     Ok(Eta {
         place: place as u32,
         row: row as u32,
@@ -316,22 +332,21 @@ fn lower_factor(
     })
 }
 
-// The factor that clears the closed places.
+// The factor that clears the closed places, which are given.
 fn upper_factor(
     alloc: Global,
     image: &[Fixed],
-    entries: &[Entry],
-    is_open: &[bool],
+    places: &[u32],
     place: usize,
 ) -> Result<Eta, AllocError>
     requires short { length image.now < 2 ^ 32 }
-    requires flagged { length is_open.now ≡ length image.now }
-    requires spanned { IsSpanned image.now place entries.now }
+    requires rising { IsRising 0 (length image.now) places.now }
     requires place_in { place < length image.now }
     ensures eta { IfOk result (IsEta (length image.now)) }
-    ensures value { IfOk result (λ eta. elimination_of (length image.now) eta ≡ upper_step image.now is_open.now place) }
+    ensures value { IfOk result (λ eta. elimination_of (length image.now) eta ≡
+        record { place = place; row = place; column = slice_set (restricted image.now places.now) place unity }) }
 {
-    let others = part_others(alloc, image, entries, is_open, false, place)?;
+    let others = part_others(alloc, image, places, place)?;
     Ok(Eta {
         place: place as u32,
         row: place as u32,
@@ -351,40 +366,38 @@ fn push_unless_unit(etas: &mut Vec<Eta>, eta: Eta) -> Result<(), AllocError>
     Ok(())
 }
 
-// Among the open rows whose numbers are large enough, the one of the least rank.
-fn pivot_row(image: &[Fixed], entries: &[Entry], is_open: &[bool], ranks: &[u32]) -> Option<usize>
-    requires flagged { length is_open.now ≡ length image.now }
+// Among the rows whose numbers are large enough, the one of the least rank.
+#[inline(never)]
+fn pivot_row(image: &[Fixed], rows: &[u32], ranks: &[u32]) -> Option<usize>
     requires ranked { length ranks.now ≡ length image.now }
-    requires entries { AreEntries image.now (length image.now) entries.now }
-    ensures pivot { IfSome result (CanPivot image.now is_open.now) }
-    ensures none { IfNone result (HasNoPivot image.now is_open.now) }
+    requires rows { All (λ p. p < length image.now) rows.now }
+    ensures pivot { IfSome result (IsPivotRow image.now rows.now) }
+    ensures none { IfNone result (All (λ p. unsigned_abs (at image.now p).raw < 2 ^ 20) rows.now) }
 {
-    let largest = largest_open(image, entries, is_open)?;
+    let largest = largest_row(image, rows)?;
     let least = (image[largest].raw.unsigned_abs() / PIVOT_PART).max(LEAST_PIVOT);
     let mut best = largest;
-    for entry in entries {
-        let row = entry.place as usize;
-        let size = image[row].raw.unsigned_abs();
-        if least <= size && is_open[row] && ranks[row] < ranks[best] {
+    for listed in rows {
+        let row = *listed as usize;
+        if ranks[row] < ranks[best] && least <= image[row].raw.unsigned_abs() {
             best = row;
         }
     }
     Some(best)
 }
 
-// The first open row with the largest number, where that is large enough.
-fn largest_open(image: &[Fixed], entries: &[Entry], is_open: &[bool]) -> Option<usize>
-    requires flagged { length is_open.now ≡ length image.now }
-    requires entries { AreEntries image.now (length image.now) entries.now }
-    ensures pivot { IfSome result (CanPivot image.now is_open.now) }
-    ensures none { IfNone result (HasNoPivot image.now is_open.now) }
+// The first row with the largest number, where that is large enough.
+fn largest_row(image: &[Fixed], rows: &[u32]) -> Option<usize>
+    requires rows { All (λ p. p < length image.now) rows.now }
+    ensures pivot { IfSome result (IsPivotRow image.now rows.now) }
+    ensures none { IfNone result (All (λ p. unsigned_abs (at image.now p).raw < 2 ^ 20) rows.now) }
 {
     let mut largest = None;
     let mut most = LEAST_PIVOT - 1;
-    for entry in entries {
-        let row = entry.place as usize;
+    for listed in rows {
+        let row = *listed as usize;
         let size = image[row].raw.unsigned_abs();
-        if most < size && is_open[row] {
+        if most < size {
             most = size;
             largest = Some(row);
         }

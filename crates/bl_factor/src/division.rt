@@ -36,6 +36,8 @@ pub(crate) fn quotient(number: Fixed, pivot: Fixed, reciprocal: u64) -> Fixed
     }
 }
 
+// A call of its own: most quotients are of 0, and their loop is to be short.
+#[inline(never)]
 fn filled_quotient(number: Fixed, pivot: Fixed, reciprocal: u64) -> Fixed
     requires pivot { IsPivot pivot }
     requires filled { 0 < unsigned_abs number.raw }

@@ -53,19 +53,20 @@ impl Eta {
     }
 }
 
-// Lets the entries at two places change places.
+// Lets the entries at two places change places. As raw numbers they go through registers.
 fn exchange(right: &mut [Fixed], place: usize, row: usize)
     requires place_in { place < length right.old }
     requires row_in { row < length right.old }
     ensures { right.new ≡ swap right.old place row }
 {
-    let at_place = right[place];
-    let at_row = right[row];
-    right[row] = at_place;
-    right[place] = at_row;
+    let at_place = right[place].raw;
+    let at_row = right[row].raw;
+    right[row] = Fixed { raw: at_place };
+    right[place] = Fixed { raw: at_row };
 }
 
-// Leaves the image of `right` in it.
+// Leaves the image of `right` in it. A call of its own: inlined, its loop runs short of registers.
+#[inline(never)]
 pub(crate) fn apply_all(etas: &[Eta], right: &mut [Fixed])
     requires { AreEtas (length right.old) etas.now }
     ensures { right.new ≡ image_under (eliminations (length right.old) etas.now) right.old }

@@ -8,6 +8,7 @@ mod ordering;
 mod others;
 mod pattern;
 mod sparse;
+mod support;
 
 use crate::eta::Eta;
 pub use crate::sparse::Entry;

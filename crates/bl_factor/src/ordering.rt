@@ -42,7 +42,8 @@ pub(crate) fn order_of(
 impl Order {
     ghost use Rattle.std.specs.Prelude.{◌≡◌, length};
 
-    // Orders the open places by eliminating their pattern.
+    // Orders the open places by eliminating their pattern. Once it is so full that the order makes little difference,
+    // the rest come by their counts.
     fn eliminate(
         &mut self,
         alloc: Global,
@@ -51,22 +52,40 @@ impl Order {
     ) -> Result<(), AllocError>
         ensures { length self.new.ranks.items ≡ length self.old.ranks.items }
     {
+        let mut left = numbers_below(alloc, open.len())?;
         let mut rows = Vec::new(alloc);
         let mut columns = Vec::new(alloc);
+        // No count is less.
+        let mut least = 0;
         for rank in 0..open.len() {
-            let Some(column) = least(pattern.columns.counts.as_slice()) else {
-                return Ok(());
+            let counts = pattern.columns.counts.as_slice();
+            let Some(column) = take_sparsest(&mut left, counts, least) else {
+                break;
             };
+            least = count_of(counts, column);
             self.places.push(named(open, column))?;
             pattern.columns.members(column, &mut rows)?;
             if let Some(row) = least_of(rows.as_slice(), pattern.rows.counts.as_slice()) {
                 self.rank(named(open, row), rank);
                 pattern.rows.members(row, &mut columns)?;
                 pattern.eliminate(row, column, rows.as_slice(), columns.as_slice());
+                // Only the counts of the row's columns are others now.
+                least = least.min(least_count(
+                    columns.as_slice(),
+                    pattern.columns.counts.as_slice(),
+                ));
             } else {
                 pattern.drop_column(column);
             }
         }
+        let counts = pattern.columns.counts.as_slice();
+        left.sort_unstable_by_key(|number| count_of(counts, *number));
+        append(&mut self.places, left.as_slice(), open)?;
+        rank_rest(
+            self.ranks.as_mut_slice(),
+            pattern.rows.counts.as_slice(),
+            open,
+        );
         Ok(())
     }
 
@@ -147,32 +166,76 @@ fn insert_column(pattern: &mut Pattern, column: usize, entries: &[Entry], number
     }
 }
 
-// Among these numbers the first with the least count.
-fn least_of(numbers: &[usize], counts: &[u32]) -> Option<usize> {
-    let mut best = None;
-    let mut fewest = u32::MAX;
-    for number in numbers {
-        let count = counts.get(*number).copied().unwrap_or(u32::MAX);
-        if count < fewest {
-            best = Some(*number);
-            fewest = count;
+// Ranks the rows that still count behind the others, those with few entries first.
+fn rank_rest(ranks: &mut [u32], counts: &[u32], open: &[usize]) {
+    let others = u32::try_from(open.len()).unwrap_or(u32::MAX);
+    for (number, count) in counts.iter().enumerate() {
+        if let Some(rank) = ranks.get_mut(named(open, number)) {
+            *rank = (*rank).min(others.saturating_add(*count));
         }
     }
-    best
 }
 
-// The first number with the least count.
-fn least(counts: &[u32]) -> Option<usize> {
+// Puts the open places with these numbers behind others.
+fn append(places: &mut Vec<usize>, numbers: &[usize], open: &[usize]) -> Result<(), AllocError> {
+    for number in numbers {
+        places.push(named(open, *number))?;
+    }
+    Ok(())
+}
+
+// The numbers below another one.
+fn numbers_below(alloc: Global, end: usize) -> Result<Vec<usize>, AllocError> {
+    let mut numbers = Vec::with_capacity(alloc, end)?;
+    for number in 0..end {
+        numbers.push(number)?;
+    }
+    Ok(numbers)
+}
+
+// Takes the first column with the least count out of those that are left. None where all have entries in half of the
+// rows that are left.
+fn take_sparsest(left: &mut Vec<usize>, counts: &[u32], least: u32) -> Option<usize> {
+    let position = position_of_least(left.as_slice(), counts, least)?;
+    let column = *left.get(position)?;
+    if (count_of(counts, column) as usize).saturating_mul(2) >= left.len() {
+        return None;
+    }
+    Some(left.remove(position))
+}
+
+// Among these numbers the first with the least count.
+fn least_of(numbers: &[usize], counts: &[u32]) -> Option<usize> {
+    let position = position_of_least(numbers, counts, 1)?;
+    numbers.get(position).copied()
+}
+
+// Where the first with the least count stands among these numbers. None is looked for after one of at most `enough`.
+fn position_of_least(numbers: &[usize], counts: &[u32], enough: u32) -> Option<usize> {
     let mut best = None;
     let mut fewest = u32::MAX;
-    for (number, count) in counts.iter().enumerate() {
-        if *count < fewest {
-            best = Some(number);
-            fewest = *count;
-            if fewest <= 1 {
+    for (position, number) in numbers.iter().enumerate() {
+        let count = count_of(counts, *number);
+        if count < fewest {
+            best = Some(position);
+            fewest = count;
+            if fewest <= enough {
                 break;
             }
         }
     }
     best
+}
+
+// The least count of these numbers.
+fn least_count(numbers: &[usize], counts: &[u32]) -> u32 {
+    let mut fewest = u32::MAX;
+    for number in numbers {
+        fewest = fewest.min(count_of(counts, *number));
+    }
+    fewest
+}
+
+fn count_of(counts: &[u32], number: usize) -> u32 {
+    counts.get(number).copied().unwrap_or(u32::MAX)
 }

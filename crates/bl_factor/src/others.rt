@@ -163,6 +163,8 @@ fn subtract_by_narrow(right: &mut [Fixed], entries: &[NarrowEntry], factor: i64)
     }
 }
 
+// A call of its own, as it is seldom needed.
+#[inline(never)]
 fn subtract_by_wide(right: &mut [Fixed], entries: &[NarrowEntry], factor: Fixed)
     requires { IsSparse 0 (length right.old) (map widened entries.now) }
     ensures { right.new ≡ column_of (length right.old) (λ i. less_multiple (at right.old i) (value_at (map widened entries.now) i) factor) }

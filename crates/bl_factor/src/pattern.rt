@@ -8,6 +8,8 @@ pub(crate) struct Lines {
     words: usize,
     bits: Vec<u64>,
     pub counts: Vec<u32>,
+    // The words of the line that is being eliminated.
+    source: Vec<u64>,
 }
 
 impl Lines {
@@ -17,6 +19,7 @@ impl Lines {
             words,
             bits: Vec::from_elem(alloc, 0u64, size.saturating_mul(words))?,
             counts: Vec::from_elem(alloc, 0u32, size)?,
+            source: Vec::from_elem(alloc, 0u64, words)?,
         })
     }
 
@@ -61,10 +64,14 @@ impl Lines {
     // line counts no longer.
     fn eliminate(&mut self, line: usize, place: usize, others: &[usize]) {
         self.clear(line, place);
+        copy_line(
+            self.source.as_mut_slice(),
+            line_at(self.bits.as_slice(), line, self.words),
+        );
         for other in others {
             if *other != line {
                 self.clear(*other, place);
-                self.merge(line, *other);
+                self.merge(*other);
             }
         }
         if let Some(count) = self.counts.get_mut(line) {
@@ -72,22 +79,39 @@ impl Lines {
         }
     }
 
-    // Gives a line the bits of another one.
-    fn merge(&mut self, from: usize, to: usize) {
-        let from_start = from.wrapping_mul(self.words);
-        let to_start = to.wrapping_mul(self.words);
-        let mut ones = 0u32;
-        for index in 0..self.words {
-            let source = self.word_at(from_start.wrapping_add(index));
-            if let Some(target) = self.bits.get_mut(to_start.wrapping_add(index)) {
-                *target |= source;
-                ones = ones.wrapping_add(target.count_ones());
+    // Gives a line the bits of the one that is being eliminated.
+    fn merge(&mut self, line: usize) {
+        let start = line.wrapping_mul(self.words);
+        let end = start.wrapping_add(self.words);
+        if let Some(target) = self.bits.as_mut_slice().get_mut(start..end) {
+            let ones = unite(target, self.source.as_slice());
+            if let Some(count) = self.counts.get_mut(line) {
+                *count = ones;
             }
         }
-        if let Some(count) = self.counts.get_mut(to) {
-            *count = ones;
-        }
     }
+}
+
+// The words of a line.
+fn line_at(bits: &[u64], line: usize, words: usize) -> &[u64] {
+    let start = line.wrapping_mul(words);
+    bits.get(start..start.wrapping_add(words)).unwrap_or(&[])
+}
+
+fn copy_line(to: &mut [u64], from: &[u64]) {
+    for (word, source) in to.iter_mut().zip(from.iter()) {
+        *word = *source;
+    }
+}
+
+// Gives a line the bits of another one, and tells how many it has then.
+fn unite(to: &mut [u64], from: &[u64]) -> u32 {
+    let mut ones = 0u32;
+    for (word, source) in to.iter_mut().zip(from.iter()) {
+        *word |= *source;
+        ones = ones.wrapping_add(word.count_ones());
+    }
+    ones
 }
 
 fn push_bits(list: &mut Vec<usize>, index: usize, word: u64) -> Result<(), AllocError> {

@@ -1,5 +1,5 @@
-use Rattle.bl_factor.specs.Reduction.{CanPivot}
+use Rattle.bl_factor.specs.Support.{IsPivotRow}
 use Rattle.bl_factor.proofs.anew.pivot_row.Given as goal
 
-abbrev pub invariant-loop-entry : goal.invariant-loop-entry
-invariant-loop-entry l = CanPivot l.image l.is_open l.best
+abbrev pub invariant-loop-listed : goal.invariant-loop-listed
+invariant-loop-listed l = IsPivotRow l.image l.rows l.best

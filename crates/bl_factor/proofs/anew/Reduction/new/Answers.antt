@@ -18,13 +18,13 @@ returns c =
     let is_open = c.in_ok-is_open.is_open in
     let s = IsReduction-start matrix is_open.items
     (λ k h f. c.in_ok-is_open.ensures.closed k (omega (arith, m)) f ∙ ap (λ (j : ℕ). unit_column j k) (sym m)) in
-    let none = ap (eliminations n) c.new.ensures.items in
-    let none' = ap (eliminations n) c.new-2.ensures.items in
+    let none = ap (eliminations n) c.in_ok-lower.ensures.items in
+    let none' = ap (eliminations n) c.in_ok-upper.ensures.items in
     record {
       flagged = c.in_ok-is_open.ensures.flagged;
       ranked = c.in_ok-order.ensures;
-      lower = All-same (IsEta n) c.new.result.items _ c.new.ensures.items (All-nil (IsEta n));
-      upper = All-same (IsEta n) c.new-2.result.items _ c.new-2.ensures.items (All-nil (IsEta n));
-      reduction = subst (λ (us : List Elimination). IsReduction matrix is_open.items (eliminations n c.new.result.items) us) (sym none')
+      lower = All-same (IsEta n) c.in_ok-lower.lower.items _ c.in_ok-lower.ensures.items (All-nil (IsEta n));
+      upper = All-same (IsEta n) c.in_ok-upper.upper.items _ c.in_ok-upper.ensures.items (All-nil (IsEta n));
+      reduction = subst (λ (us : List Elimination). IsReduction matrix is_open.items (eliminations n c.in_ok-lower.lower.items) us) (sym none')
           (subst (λ (ls : List Elimination). IsReduction matrix is_open.items ls []) (sym none) s);
     }

@@ -1,0 +1,13 @@
+use Rattle.std.proofs.Common.{◌≡◌, ◌≤◌, ◌^◌, ◌-◌, take, unsigned_abs}
+use Rattle.std.specs.Prelude.{MatchOption}
+use Rattle.std.specs.List.{All}
+use Rattle.bl_factor.specs.Vectors.{at}
+use Rattle.bl_factor.specs.Support.{IsPivotRow}
+use Rattle.bl_factor.proofs.anew.largest_row.Given as goal
+
+abbrev pub invariant-loop-listed : goal.invariant-loop-listed
+invariant-loop-listed l = record {
+  pivot : MatchOption l.largest (l.most ≡ 2 ^ 20 - 1) (IsPivotRow l.image l.rows);
+  least : 2 ^ 20 - 1 ≤ l.most;
+  seen : All (λ p. unsigned_abs (at l.image p).raw ≤ l.most) (take l.listed-index l.rows);
+}

@@ -1,0 +1,45 @@
+// Where a column has numbers that are not 0.
+ghost use Rattle.std.specs.Prelude.{◌≡◌, ◌<◌, ◌≤◌, ◌^◌, true, false, length, take};
+ghost use Rattle.bl_factor.specs.Support.{CoversSupport};
+
+use bl_fixed::Fixed;
+
+// How many places with either flag there are.
+#[derive(Clone, Copy)]
+pub(crate) struct Counts {
+    pub flagged: usize,
+    pub others: usize,
+}
+
+// Writes the places of the numbers that are not 0 to the fronts of two lists, by their flags. There is no branch, as which
+// numbers are 0 can't be foreseen. A call of its own: inlined, its loop runs short of registers.
+#[inline(never)]
+pub(crate) fn support_of(
+    column: &[Fixed],
+    flags: &[bool],
+    flagged: &mut [u32],
+    others: &mut [u32],
+) -> Counts
+    requires short { length column.now < 2 ^ 32 }
+    requires flags { length flags.now ≡ length column.now }
+    requires flagged { length flagged.old ≡ length column.now }
+    requires others { length others.old ≡ length column.now }
+    ensures count { result.flagged ≤ length flagged.new }
+    ensures other_count { result.others ≤ length others.new }
+    ensures flagged { CoversSupport column.now flags.now true (length column.now) (take result.flagged flagged.new) }
+    ensures others { CoversSupport column.now flags.now false (length column.now) (take result.others others.new) }
+{
+    let mut filled = 0usize;
+    let mut count = 0usize;
+    for (place, number) in column.iter().enumerate() {
+        flagged[count] = place as u32;
+        others[filled - count] = place as u32;
+        let is_filled = number.raw != 0;
+        filled += usize::from(is_filled);
+        count += usize::from(is_filled & flags[place]);
+    }
+    Counts {
+        flagged: count,
+        others: filled - count,
+    }
+}
