@@ -35,17 +35,6 @@ put_by : (t : Bool) (c d : Cell) (cells : List Cell) (rows : List (List ℕ)) �
 put_by true c d cells rows e = ap (λ (rs : List (List ℕ)). c.row ∷ rs) e
 put_by false c d cells rows e = e
 
--- a number of the column adds its row
-pub rows_in-push : (cells : List Cell) (c : Cell) → rows_in (cells ++ c ∷ []) c.column ≡ rows_in cells c.column ++ c.row ∷ []
-rows_in-push [] c = let here : (c.column == c.column) ≡ true = grind (arith, nat_tests) in rw here refl
-rows_in-push (d ∷ cells) c = step (d.column == c.column) (rows_in-push cells c)
-  where
-    step : (t : Bool) → rows_in (cells ++ c ∷ []) c.column ≡ rows_in cells c.column ++ c.row ∷ [] →
-        map (λ (e : Cell). e.row) (cond t (d ∷ filter (λ (e : Cell). e.column == c.column) (cells ++ c ∷ [])) (filter (λ (e : Cell). e.column == c.column) (cells ++ c ∷ [])))
-        ≡ map (λ (e : Cell). e.row) (cond t (d ∷ filter (λ (e : Cell). e.column == c.column) cells) (filter (λ (e : Cell). e.column == c.column) cells)) ++ c.row ∷ []
-    step true e = ap (λ (rs : List (List ℕ)). d.row ∷ rs) e
-    step false e = e
-
 abbrev pub one_cell : Grid → List ℕ → Decimal → Cell
 one_cell g row z = record { column = length g.names - 1; row = row; number = z }
 

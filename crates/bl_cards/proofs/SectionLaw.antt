@@ -135,16 +135,6 @@ section_goes s u t word ls e g =
       ap (λ (x : Said). x.section) (sym is) ∙ ap (named_or s.section) (sym found),
     )
 
-data_section : (now : Section) (s u : Said) (words : List (List ℕ)) → s.section ≡ now → data_line now s words ≡ Ok u → u.section ≡ now
-data_section Start s u words n e = absurd cc
-data_section Name s u words n e = absurd cc
-data_section Rows s u words n e = let a = went (rows_line s.rows words) _ u e in let is : record s { rows = a.x } ≡ u = cc in ap (λ (x : Said). x.section) (sym is) ∙ n
-data_section Columns s u words n e = let a = went (columns_line s.rows s.columns words) _ u e in let is : record s { columns = a.x } ≡ u = cc in ap (λ (x : Said). x.section) (sym is) ∙ n
-data_section Rhs s u words n e = let a = went (given_line false s.rows s.rhs words) _ u e in let is : record s { rhs = a.x } ≡ u = cc in ap (λ (x : Said). x.section) (sym is) ∙ n
-data_section Ranges s u words n e = let a = went (given_line true s.rows s.ranges words) _ u e in let is : record s { ranges = a.x } ≡ u = cc in ap (λ (x : Said). x.section) (sym is) ∙ n
-data_section Bounds s u words n e = let a = went (bounds_line s.columns.names s.bounds words) _ u e in let is : record s { bounds = a.x } ≡ u = cc in ap (λ (x : Said). x.section) (sym is) ∙ n
-data_section End s u words n e = absurd cc
-
 -- a line goes on to what the lines behind it say
 spoken_goes : (s u t : Said) (d : Bool) (words : List (List ℕ)) (ls : List DataLine) → spoken s d words ≡ Ok u → (u.section ≡ section_behind s.section d words → Goes u ls t) → Goes s (data_of s.section d words ++ ls) t
 spoken_goes s u t true [] ls e g = let is : s ≡ u = cc in rw is (g (ap (λ (x : Said). x.section) (sym is)))

@@ -247,9 +247,6 @@ pub nought_either : (b : Bool) → (if b then nought else nought) ≡ nought
 nought_either true = refl
 nought_either false = refl
 
-pub Picks-none : (column : List Fixed) (except : ℕ) → Picks column except [] []
-Picks-none column except = record { sparse = λ m s. tt; values = λ i l. refl }
-
 pub Picks-push : (column : List Fixed) (except : ℕ) (es part : List Entry) (e : Entry) → IsSparse 0 e.place es → is_nought e.value ≡ false →
     is_nought (at column e.place) ≡ false → e.place ≢ except → Picks column except es part →
     Picks column except (es ++ e ∷ []) (part ++ record { place = e.place; value = at column e.place } ∷ [])

@@ -3,7 +3,7 @@ use Rattle.std.proofs.Common.{◌≡◌, ◌≢◌, ℕ, zero, suc, ◌+◌, ◌
 use mir.Val.{bool_byte}
 use Rattle.std.specs.List.{All}
 use Rattle.std.proofs.lemmas.List.{take-set, take_more_set, map_more}
-use Rattle.std.proofs.lemmas.List.Elements.{All-nil, All-cons, All-head, All-tail, All-from_get_or}
+use Rattle.std.proofs.lemmas.List.Elements.{All-nil, All-cons, All-head, All-tail}
 use Rattle.std.proofs.lemmas.Bool.{cases_lt, eq-eqb}
 use Rattle.std.proofs.lemmas.Bool.Decides.{nat_tests, eqb_tells}
 use Rattle.bl_fixed.specs.declared.Fixed.{Fixed}
@@ -49,9 +49,6 @@ listed-at (p ∷ ps) (suc k) h =
     either : (b : Bool) → (if b then true else true) ≡ true
     either true = refl
     either false = refl
-
-pub all-listed : (P : ℕ → Type 0) (ps : List ℕ) → ((i : ℕ) → is_listed ps i ≡ true → P i) → All P ps
-all-listed P ps h = All-from_get_or P ps 0 (λ k l. h (get_or ps k 0) (listed-at ps k l))
 
 listed-push_new : (ps : List ℕ) (q : ℕ) → is_listed (ps ++ q ∷ []) q ≡ true
 listed-push_new [] q = ap (λ (b : Bool). if b then true else false) (eq-eqb q q refl)

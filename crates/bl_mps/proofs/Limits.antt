@@ -1,6 +1,6 @@
 -- What keeps the limits.
-use Rattle.std.proofs.Common.{Result, Ok, Err, ◌≡◌, ℕ, suc, ◌*◌, ◌^◌, ◌<◌, ◌≤◌, Bool, true, false, cond, ◌&&◌, List, [], ◌∷◌, length, get_or, Option, Some, None, refl, ap, ◌∙◌, arith, ℤ, pos, negsuc, ◌+ℤ◌, ◌-ℤ◌, ◌≤ℤ◌}
-use Rattle.std.specs.Prelude.{nat_abs, nat_le}
+use Rattle.std.proofs.Common.{Result, Ok, Err, ◌≡◌, ℕ, suc, ◌^◌, ◌<◌, Bool, true, false, cond, ◌&&◌, List, [], ◌∷◌, length, get_or, Option, Some, None, refl, ap, ◌∙◌, arith, ℤ, pos, negsuc, ◌+ℤ◌, ◌-ℤ◌, ◌≤ℤ◌}
+use Rattle.std.specs.Prelude.{nat_abs}
 use Rattle.std.specs.List.{list_all}
 use Rattle.std.proofs.lemmas.Int.{ints}
 use Rattle.std.proofs.lemmas.Bool.Decides.{nat_tests}
@@ -17,8 +17,7 @@ use Rattle.bl_mps.specs.declared.scale.RowEnds.{RowEnds}
 use Rattle.bl_cards.specs.declared.kind.Role.{Role}
 use Rattle.bl_cards.specs.declared.kind.Role.TheVariants.{Objective, Extra, AtMost, AtLeast, Equal}
 use Rattle.bl_cards.specs.Lines.{is_limited}
-use Rattle.bl_mps.specs.Meaning.{low_end, high_end, ends_of, is_within, term_of, terms_of, term_within, end_within, limited}
-use Rattle.bl_mps.specs.Views.{ends_within}
+use Rattle.bl_mps.specs.Meaning.{low_end, high_end, is_within, term_of, terms_of, term_within, end_within, limited}
 
 -- ---- what is kept, and what is too wide
 
@@ -89,49 +88,9 @@ ends_are Equal b (Some (negsuc r)) l e = two_ends (b -ℤ pos (suc r)) b e (belo
 
 -- ---- a right side or a range that is too far
 
-pub too_far : (m : ℕ) (z : ℤ) → m < nat_abs z → is_within m z ≡ false
-too_far m z l = grind (arith, nat_tests)
-
-first_far : (a : Bool) → (false && a) ≡ false
-first_far a = refl
-
 pub second_far : (a : Bool) → (a && false) ≡ false
 second_far true = refl
 second_far false = refl
-
--- each row with ends has its right side for one
-pub right_far : (role : Role) (b : ℤ) (r : Option ℤ) → is_limited role ≡ true → is_within (10 ^ 24) b ≡ false → (end_within (low_end role b r) && end_within (high_end role b r)) ≡ false
-right_far Objective b r l e = absurd cc
-right_far Extra b r l e = absurd cc
-right_far AtMost b None l e = e
-right_far AtMost b (Some r) l e = rw e (second_far (is_within (10 ^ 24) (b -ℤ pos (nat_abs r))))
-right_far AtLeast b None l e = rw e refl
-right_far AtLeast b (Some r) l e = rw e refl
-right_far Equal b None l e = rw e refl
-right_far Equal b (Some (pos r)) l e = rw e refl
-right_far Equal b (Some (negsuc r)) l e = rw e (second_far (is_within (10 ^ 24) (b -ℤ pos (suc r))))
-
-sum_far : (b : ℤ) (k : ℕ) → nat_abs b ≤ 10 ^ 24 → 2 * 10 ^ 24 < k → is_within (10 ^ 24) (b +ℤ pos k) ≡ false
-sum_far b k l m = too_far (10 ^ 24) (b +ℤ pos k) (omega (arith, ints, l, m))
-
-difference_far : (b : ℤ) (k : ℕ) → nat_abs b ≤ 10 ^ 24 → 2 * 10 ^ 24 < k → is_within (10 ^ 24) (b -ℤ pos k) ≡ false
-difference_far b k l m = too_far (10 ^ 24) (b -ℤ pos k) (omega (arith, ints, l, m))
-
-far_by : (m n : ℕ) → nat_le n m ≡ false → m < n
-far_by m n e = grind (arith, nat_tests)
-
--- with a right side that is near, a range that is far brings the other end too far
-pub range_far : (role : Role) (b r : ℤ) → is_limited role ≡ true → nat_abs b ≤ 10 ^ 24 → is_within (2 * 10 ^ 24) r ≡ false → (end_within (low_end role b (Some r)) && end_within (high_end role b (Some r))) ≡ false
-range_far Objective b r l n e = absurd cc
-range_far Extra b r l n e = absurd cc
-range_far AtMost b r l n e = rw (difference_far b (nat_abs r) n (far_by (2 * 10 ^ 24) (nat_abs r) e)) refl
-range_far AtLeast b r l n e = rw (sum_far b (nat_abs r) n (far_by (2 * 10 ^ 24) (nat_abs r) e)) (second_far (is_within (10 ^ 24) b))
-range_far Equal b (pos r) l n e = rw (sum_far b r n (far_by (2 * 10 ^ 24) r e)) (second_far (is_within (10 ^ 24) b))
-range_far Equal b (negsuc r) l n e = rw (difference_far b (suc r) n (far_by (2 * 10 ^ 24) (suc r) e)) refl
-
--- so there are no ends within the limit
-pub no_ends_by : (role : Role) (b : ℤ) (r : Option ℤ) → (end_within (low_end role b r) && end_within (high_end role b r)) ≡ false → None ≡ ends_within (ends_of role b r)
-no_ends_by role b r e = rw e refl
 
 -- ---- what was given, where something was
 
@@ -142,10 +101,6 @@ ends_by false e f = refl
 pub some_by : (t : Bool) (e f : RowEnds) → cond t (Some e) None ≡ Some f → (t ≡ true) × (e ≡ f)
 some_by true e f g = (refl, cc)
 some_by false e f g = absurd cc
-
-pub number_by : (t : Bool) (z : ℤ) → cond t (Some z) None ≡ None → t ≡ false
-number_by true z f = absurd cc
-number_by false z f = refl
 
 pub some_number : (t : Bool) (z y : ℤ) → cond t (Some z) None ≡ Some y → (t ≡ true) × (z ≡ y)
 some_number true z y g = (refl, cc)

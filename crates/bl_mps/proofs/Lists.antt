@@ -1,7 +1,7 @@
 -- What is kept for each name, when one more number or card comes.
-use Rattle.std.proofs.Common.{◌≡◌, ℕ, ◌+◌, Bool, true, false, cond, ◌&&◌, List, [], ◌∷◌, ◌++◌, map, length, get_or, set, replicate, Option, Some, None, refl, sym, ap, ◌∙◌}
+use Rattle.std.proofs.Common.{◌≡◌, ℕ, Bool, true, false, cond, ◌&&◌, List, [], ◌∷◌, ◌++◌, map, length, get_or, set, replicate, Option, Some, None, refl, sym, ap, ◌∙◌}
 use Rattle.std.specs.Prelude.{filter, not}
-use Rattle.std.proofs.lemmas.List.{append-nil, map-append, replicate-append-replicate}
+use Rattle.std.proofs.lemmas.List.{append-nil, map-append}
 use Rattle.std.proofs.lemmas.List.Elements.{filter-append}
 use Rattle.std.proofs.lemmas.List.Sums.{fold_push}
 use Rattle.bl_mps.specs.declared.entries.Entry.{Entry}
@@ -87,9 +87,6 @@ ends_put names cards c i ends d new differ e h p =
 pub same_each : {A B : Type 0} (a : B) (xs : List A) → map (λ x. a) xs ≡ replicate (length xs) a
 same_each a [] = refl
 same_each a (x ∷ xs) = ap (λ (ys : List _). a ∷ ys) (same_each a xs)
-
-pub replicate_more : {A : Type 0} (n : ℕ) (a : A) → replicate (n + 1) a ≡ replicate n a ++ a ∷ []
-replicate_more n a = sym (replicate-append-replicate n 1 a)
 
 -- ---- the term of a number
 

@@ -5,7 +5,6 @@ use Rattle.std.specs.List.{list_all}
 use Rattle.std.proofs.lemmas.List.{append-nil, map-append, take_more, drop_more, length-take}
 use Rattle.std.proofs.lemmas.List.Elements.{filter-append}
 use Rattle.std.proofs.lemmas.List.Folds.{list_all-append}
-use Rattle.bl_num.specs.Decimals.{in_units}
 use Rattle.bl_problem.specs.declared.problem.Term.{Term}
 use Rattle.bl_problem.specs.declared.problem.Column.{Column}
 use Rattle.bl_problem.specs.declared.problem.Row.{Row}
@@ -13,15 +12,13 @@ use Rattle.bl_cards.specs.declared.fault.LineFault.{LineFault}
 use Rattle.bl_cards.specs.declared.fault.LineFault.TheVariants.{Memory, Broken}
 use Rattle.bl_cards.specs.declared.kind.What.TheVariants as what
 use Rattle.bl_mps.specs.declared.ends.Ends.{Ends}
-use Rattle.bl_mps.specs.declared.scale.RowEnds.{RowEnds}
 use Rattle.bl_mps.specs.declared.finish.ScaledObjective.{ScaledObjective}
 use Rattle.bl_cards.specs.Said.{RowLine, Said}
 use Rattle.bl_cards.specs.Lines.{is_limited, has_objective}
-use Rattle.bl_mps.specs.Meaning.{RowSaid, terms_of, range_in, ends_of, row_in, row_of, rows_of, column_of, columns_from, objective_of, all_ends, ends_or, binary, are_whole, are_bounded, is_within, term_within, end_within, row_within, objective_within, keeps_limits, limited, program_of, finished}
+use Rattle.bl_mps.specs.Meaning.{row_of, rows_of, column_of, columns_from, objective_of, all_ends, ends_or, binary, are_whole, are_bounded, is_within, term_within, row_within, objective_within, keeps_limits, limited, program_of, finished}
 use Rattle.bl_cards.specs.Coherence.{IsCoherent}
 use Rattle.bl_cards.specs.Views.{Gives}
-use Rattle.bl_mps.specs.Views.{ends_within}
-use Rattle.bl_mps.proofs.Limits.{kept, wide, second_far, ends_by, some_by, number_by, some_number}
+use Rattle.bl_mps.proofs.Limits.{wide, second_far}
 use Rattle.bl_mps.proofs.Programs.{costs_within, costs_rise, costs_inside}
 
 -- ---- columns
@@ -98,29 +95,7 @@ first_false a b e = rw e refl
 pub second_false : (a b : Bool) → b ≡ false → (a && b) ≡ false
 second_false a b e = rw e (second_far a)
 
--- ends that are too far
-pub ends_far : (terms : Bool) (e : RowEnds) → ends_within e ≡ None → (terms && (end_within e.low && end_within e.high)) ≡ false
-ends_far terms e f = second_false terms (end_within e.low && end_within e.high) (ends_by (end_within e.low && end_within e.high) e f)
-
-pub row_is_made : (places : ℕ) (line : RowLine) (r : RowSaid) (terms : List Term) (ends : RowEnds) → limited (list_all term_within) (terms_of places r.entries) ≡ Ok terms → ends_within (ends_of line.role (in_units r.right places) (range_in places r.range)) ≡ Some ends
-    → limited row_within (row_in places line r) ≡ Ok (record { name = line.name; terms = terms; low = ends.low; high = ends.high })
-row_is_made places line r terms ends e f =
-    let k = kept (list_all term_within) (terms_of places r.entries) terms e in
-    let is = ends_of line.role (in_units r.right places) (range_in places r.range) in
-    let m = some_by (end_within is.low && end_within is.high) is ends f in
-    kept_is row_within (row_in places line r) (record { name = line.name; terms = terms; low = ends.low; high = ends.high }) (rw (k.0, m.0) refl) (rw (← k.1, ← m.1) refl)
-
 -- ---- the objective
-
-pub offset_far : (o : ScaledObjective) → cond (is_within (10 ^ 24) o.offset) (Some o.offset) None ≡ None → objective_within o ≡ false
-offset_far o e = second_false (list_all term_within o.costs) (is_within (10 ^ 24) o.offset) (number_by (is_within (10 ^ 24) o.offset) o.offset e)
-
-pub objective_made : (o : ScaledObjective) (costs : List Term) (offset : ℤ) → limited (list_all term_within) o.costs ≡ Ok costs → cond (is_within (10 ^ 24) o.offset) (Some o.offset) None ≡ Some offset
-    → limited objective_within o ≡ Ok (record { name = o.name; costs = costs; scale = o.scale; offset = offset })
-objective_made o costs offset e f =
-    let k = kept (list_all term_within) o.costs costs e in
-    let m = some_number (is_within (10 ^ 24) o.offset) o.offset offset f in
-    kept_is objective_within o (record { name = o.name; costs = costs; scale = o.scale; offset = offset }) (rw (k.0, m.0) refl) (rw (← k.1, ← m.1) refl)
 
 -- ---- the whole
 
@@ -142,21 +117,8 @@ module _ (s : Said) (h : IsCoherent s) where
 
 -- ---- the rules at the end, in their order
 
-pub lacks_objective : (s : Said) → has_objective s.rows ≡ false → finished s ≡ Err what.NoObjective
-lacks_objective s e = rw e refl
-
-pub lacks_whole : (s : Said) → has_objective s.rows ≡ true → are_whole (all_ends s) s.columns.whole ≡ false → finished s ≡ Err what.NotWhole
-lacks_whole s e f = rw (e, f) refl
-
-pub lacks_end : (s : Said) → has_objective s.rows ≡ true → are_whole (all_ends s) s.columns.whole ≡ true → are_bounded (all_ends s) ≡ false → finished s ≡ Err what.Unbounded
-lacks_end s e f g = rw (e, f, g) refl
-
 pub finished_is : (s : Said) → has_objective s.rows ≡ true → are_whole (all_ends s) s.columns.whole ≡ true → are_bounded (all_ends s) ≡ true → finished s ≡ limited keeps_limits (program_of s)
 finished_is s e f g = rw (e, f, g) refl
-
-pub some_false : {A : Type 0} (o : Option A) (b : Bool) → is_some o ≡ b → o ≡ None → b ≡ false
-some_false None b e f = sym e
-some_false (Some x) b e f = absurd cc
 
 pub some_true : {A : Type 0} (o : Option A) (b : Bool) (x : A) → is_some o ≡ b → o ≡ Some x → b ≡ true
 some_true None b x e f = absurd cc

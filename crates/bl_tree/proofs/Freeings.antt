@@ -87,6 +87,3 @@ pub freeing_more : (best : Option ℤ) (rs : List Record) (k last q : ℕ) (ids 
     → IsFreeingUp best rs k (ids ++ q ∷ []) q (gone_at after q)
 freeing_more best rs k last q ids after f up =
     record { others = f.others ++ q ∷ []; chain = ap (λ (l : List ℕ). l ++ q ∷ []) f.chain; freed = freed_more best f.others rs k last q after f.freed up }
-
-pub freeing_first : (best : Option ℤ) (rs : List Record) (k : ℕ) → IsFreeingUp best rs k (k ∷ []) k (gone_at rs k)
-freeing_first best rs k = record { others = []; chain = refl; freed = (refl, refl) }

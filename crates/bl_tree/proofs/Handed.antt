@@ -1,11 +1,11 @@
 -- What the tree keeps after a put.
 use Rattle.std.proofs.Common.{◌≡◌, ℕ, zero, suc, ◌+◌, ◌-◌, ◌*◌, ◌<◌, ◌≤◌, List, [], ◌∷◌, ◌++◌, length, refl, ap, sym, ◌∙◌, subst, arith, Bool, true, false, cond, Some, None, Option, length-set, length-append, append_assoc}
-use Rattle.std.specs.Prelude.{slice_get, slice_set, count_by, reverse, ℤ, ◌==◌, int_lt, IfSome}
+use Rattle.std.specs.Prelude.{slice_get, slice_set, count_by, reverse, ℤ, ◌==◌, int_lt}
 use Rattle.std.specs.Int.{int_max}
 use Rattle.std.proofs.lemmas.Bool.{eq-eqb, cond-true}
 use Rattle.std.proofs.lemmas.List.Sums.{sum_by-append}
 use Rattle.bl_problem.specs.Program.{Program}
-use Rattle.bl_problem.specs.Points.{value_of, InBox, own_lows, own_highs}
+use Rattle.bl_problem.specs.Points.{value_of}
 use Rattle.bl_problem.specs.declared.cut.Cut.{Cut}
 use Rattle.bl_desc.specs.declared.desc.Desc.{Desc}
 use Rattle.bl_desc.specs.declared.change.Change.{Change}
@@ -13,7 +13,6 @@ use Rattle.bl_desc.specs.declared.desc.Piece.{Piece}
 use Rattle.bl_desc.specs.Changes.{changed}
 use Rattle.bl_journal.specs.declared.entry.Entry.{Entry}
 use Rattle.bl_journal.specs.declared.entry.Entry.TheVariants.{Take, Put, Back, Encode, Free}
-use Rattle.bl_journal.specs.declared.entry.Step.{Step}
 use Rattle.bl_journal.specs.declared.entry.Step.TheVariants.{Shut, Split}
 use Rattle.bl_journal.specs.declared.outcome.Next.{Next}
 use Rattle.bl_journal.specs.declared.outcome.Next.TheVariants.{Shut as ShutNext, Split as SplitNext}
@@ -175,12 +174,6 @@ split_pieces p s history seat id lease outcome common column at left right f =
       left_is = f.pieces.0 ∙ (ap (λ h. stored_of p s h (length (nodes_of p h) - 2)) turned ∙ ap (stored_of p s (e ∷ past)) first);
       right_is = f.pieces.1 ∙ (ap (λ h. stored_of p s h (length (nodes_of p h) - 1)) turned ∙ ap (stored_of p s (e ∷ past)) second);
     }
-
--- a found point is within the bounds
-pub found_within : (p : Program) (past : List Entry) (seat id : ℕ) (found : Option (List ℤ)) (low : ℤ) (next : Step) → MayPut p past seat id found low next
-    → IfSome found (λ x. InBox (own_lows p) (own_highs p) x)
-found_within p past seat id None low next may = tt
-found_within p past seat id (Some x) low next may = may.sound.found_ok.0.box
 
 -- a put that shuts, as the code leaves it
 pub shut_done : (p : Program) (s : Settings) (history entries : List Entry) (room room' capacity : ℕ) (kept : List Record) (taken : ℕ) (best best' : Option ℤ) (id seat : ℕ) (lease : LeaseView) (outcome : Outcome) (r : Record)

@@ -1,8 +1,7 @@
 -- The low numbers of the live nodes, and the weights of the pieces.
 use Rattle.std.proofs.Common.{◌≡◌, ℕ, zero, suc, ◌+◌, ◌<◌, ◌≤◌, List, [], ◌∷◌, ◌++◌, length, get_or, refl, ap, sym, ◌∙◌, subst, arith, Bool, true, false, cond, not, Some, None, Option, All}
 use Rattle.std.specs.Prelude.{IfSome, slice_get, take, map, filter, sum_by, reverse, nat_lt, ℤ, ◌||◌, ◌&&◌}
-use Rattle.std.specs.Int.{int_min}
-use Rattle.std.proofs.lemmas.List.{take_all, map-append, append-nil}
+use Rattle.std.proofs.lemmas.List.{take_all, map-append}
 use Rattle.std.proofs.lemmas.Bool.{lt-ltb, le-ltb, cond-true, cond-false}
 use Rattle.bl_problem.specs.declared.cut.Cut.{Cut}
 use Rattle.bl_desc.specs.declared.desc.Piece.{Piece}
@@ -10,7 +9,7 @@ use Rattle.bl_desc.specs.declared.desc.Form.{Form}
 use Rattle.bl_desc.specs.declared.desc.Form.TheVariants.{Explicit as ExplicitForm, Relative as RelativeForm}
 use Rattle.bl_desc.proofs.Ranges.{difference_is_short}
 use Rattle.std.proofs.lemmas.List.Elements.{filter-append, filter_more}
-use Rattle.std.proofs.lemmas.List.Sums.{fold-append, sum_by_more, sum_by-append}
+use Rattle.std.proofs.lemmas.List.Sums.{sum_by_more, sum_by-append}
 use Rattle.std.proofs.lemmas.Option.{get_or_from_slice_get, slice_get_within}
 use Rattle.bl_problem.specs.Program.{Program, IsProgram}
 use Rattle.bl_desc.specs.Weights.{weight_of, HasShortLists, DescHasShortLists}
@@ -23,36 +22,13 @@ use Rattle.bl_journal.specs.Replies.{ids_below, is_waiting, is_out}
 use Rattle.bl_journal.specs.Pieces.{stored_of, piece_in, difference_from, held_of, is_freed}
 use Rattle.bl_journal.specs.Results.{live_ids, lows_of, answer_of, answer_for}
 use Rattle.bl_tree.specs.declared.record.Record.{Record}
-use Rattle.bl_tree.specs.Records.{is_out_stage, waits, lives, live_lows, least_if, least_with, weight_if, piece_if, AreRecords, AreStored, IsRecordOf}
+use Rattle.bl_tree.specs.Records.{is_out_stage, waits, lives, live_lows, least_if, weight_if, piece_if, AreRecords, AreStored, IsRecordOf}
 use Rattle.bl_journal.specs.Legality.{IsLegalPast}
 use Rattle.bl_journal.proofs.Sums.{total}
 use Rattle.bl_journal.proofs.Lines.{IsChildOf, lines, full_whole, full_columns, full_rows}
 use Rattle.bl_journal.proofs.Workable.{cuts_fine}
 use Rattle.bl_tree.specs.Answers.{stored_for, verdict_from}
 use Rattle.bl_tree.proofs.Kept.{has_record, waits_same, out_same}
-
--- one more low number
-pub least_if-push : (lows : List ℤ) (low : ℤ) → least_if (lows ++ low ∷ []) ≡ least_with (least_if lows) low
-least_if-push [] low = refl
-least_if-push (a ∷ lows) low = ap Some (fold-append int_min a lows (low ∷ []))
-
--- one more record
-pub least_more : (best : Option ℤ) (records : List Record) (i : ℕ) (r : Record) (o : Option ℤ) → i < length records → r ≡ get_or records i r → o ≡ least_if (live_lows best (take i records))
-    → least_if (live_lows best (take (i + 1) records)) ≡ cond (lives best r) (least_with o r.low) o
-least_more best records i r o here is e =
-    let a : filter (lives best) (take (i + 1) records) ≡ filter (lives best) (take i records) ++ cond (lives best (get_or records i r)) (get_or records i r ∷ []) [] = filter_more (lives best) records i r here in
-    let b : filter (lives best) (take (i + 1) records) ≡ filter (lives best) (take i records) ++ cond (lives best r) (r ∷ []) [] =
-    a ∙ ap (λ (q : Record). filter (lives best) (take i records) ++ cond (lives best q) (q ∷ []) []) (sym is) in
-    ap (λ (rs : List Record). least_if (map (λ (q : Record). q.low) rs)) b ∙ by_test (lives best r)
-  where
-    front : List Record
-    front = filter (lives best) (take i records)
-
-    by_test : (t : Bool) → least_if (map (λ (q : Record). q.low) (filter (lives best) (take i records) ++ cond t (r ∷ []) [])) ≡ cond t (least_with o r.low) o
-    by_test true =
-        ap least_if (map-append (λ (q : Record). q.low) (filter (lives best) (take i records)) (r ∷ [])) ∙ (least_if-push (live_lows best (take i records)) r.low ∙ ap (λ (x : Option ℤ). least_with x r.low) (sym e))
-    by_test false =
-        ap (λ (rs : List Record). least_if (map (λ (q : Record). q.low) rs)) (append-nil (filter (lives best) (take i records))) ∙ sym e
 
 -- a record lives where its node does
 pub lives_same : (p : Program) (past : List Entry) (i : ℕ) (r : Record) (best : Option ℤ) → best ≡ value_if (best_of p past) → IsRecordOf p past i r → lives best r ≡ is_live p past i

@@ -1,11 +1,8 @@
 -- Steps of the searches.
-use Rattle.std.proofs.Common.{◌≡◌, ℕ, zero, suc, ◌+◌, ◌<◌, List, [], ◌∷◌, length, get_or, refl, ap, sym, arith, Bool, cond, Some, None, Option, add-one}
+use Rattle.std.proofs.Common.{◌≡◌, ℕ, zero, suc, ◌<◌, List, [], ◌∷◌, length, get_or, refl, ap, sym, arith, Bool, cond, Some, None, Option}
 use Rattle.std.specs.Prelude.{slice_get}
 use Rattle.bl_journal.specs.Replies.{first_below, preferred}
 use Rattle.bl_journal.proofs.Living.{first_below_holds}
-
-pub first_below-more : (before : ℕ → ℕ → Bool) (fit : ℕ → Bool) (n : ℕ) → first_below before fit (n + 1) ≡ cond (fit n) (preferred before (first_below before fit n) n) (first_below before fit n)
-first_below-more before fit n = rw add-one refl
 
 pub slice_get-is : {X : Type 0} (xs : List X) (i : ℕ) (x : X) → i < length xs → x ≡ get_or xs i x → slice_get xs i ≡ Some x
 slice_get-is [] i x h e = absurd (omega arith)
