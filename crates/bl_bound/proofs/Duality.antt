@@ -20,7 +20,7 @@ pub record ColumnFits (r : Option ℤ) (x t : ℤ) : Type 0 where
   pub exists : r ≡ Some (number r)
   pub below : t ≤ℤ (number r *ℤ x)
 
-column_part-le : (r : Option ℤ) (l h x t : ℤ) → column_part r l h ≡ Some t → l ≤ℤ x → x ≤ℤ h → ColumnFits r x t
+pub column_part-le : (r : Option ℤ) (l h x t : ℤ) → column_part r l h ≡ Some t → l ≤ℤ x → x ≤ℤ h → ColumnFits r x t
 column_part-le None l h x t e p q = absurd cc
 column_part-le (Some (pos n)) l h x t e p q = record { exists = refl; below = let i = i128_of-some (pos n *ℤ l) t e in let m = *ℤ-le (pos n) l x (omega (arith, ints)) p in omega (arith, ints, i, m) }
 column_part-le (Some (negsuc n)) l h x t e p q = record { exists = refl; below = let i = i128_of-some (negsuc n *ℤ h) t e in let m = *ℤ-le_turned (negsuc n) x h (omega (arith, ints)) q in omega (arith, ints, i, m) }
@@ -33,7 +33,7 @@ high_part-le : (v : ℤ) (o : Option ℤ) (s t : ℤ) → v ≤ℤ pos 0 → che
 high_part-le v None s t p e m = absurd cc
 high_part-le v (Some h) s t p e m = let i = i128_of-some (v *ℤ h) t e in let k = *ℤ-le_turned v s h p m in omega (arith, ints, i, k)
 
-line_part-le : (v : ℤ) (line : Line) (s t : ℤ) → line_part v line ≡ Some t → MeetsLow line.low s → MeetsHigh line.high s → t ≤ℤ (v *ℤ s)
+pub line_part-le : (v : ℤ) (line : Line) (s t : ℤ) → line_part v line ≡ Some t → MeetsLow line.low s → MeetsHigh line.high s → t ≤ℤ (v *ℤ s)
 line_part-le (pos zero) line s t e l h = let i : pos 0 ≡ t = cc in let z = zero-*ℤ s in omega (arith, ints, i, z)
 line_part-le (pos (suc n)) line s t e l h = low_part-le (pos (suc n)) line.low s t (omega (arith, ints)) e l
 line_part-le (negsuc n) line s t e l h = high_part-le (negsuc n) line.high s t (omega (arith, ints)) e h

@@ -11,7 +11,7 @@ use Rattle.bl_problem.specs.declared.problem.Row.{Row}
 use Rattle.bl_problem.specs.declared.cut.Cut.{Cut}
 use Rattle.bl_desc.specs.declared.desc.Desc.{Desc}
 use Rattle.bl_bound.specs.Lines.{Line, lines_of}
-use Rattle.bl_bound.specs.Bounds.{sum_at, taken, column_part, column_value, line_value, bound_sum, multiplier_sum_of}
+use Rattle.bl_bound.specs.Bounds.{sum_at, taken, reduced_cost, column_part, column_value, line_value, bound_sum, multiplier_sum_of, AreReducedCosts}
 use Rattle.bl_bound.specs.Descriptions.{Describes}
 use Rattle.bl_bound.specs.Steps.{part_at}
 use Rattle.bl_bound.proofs.LineLemmas.{length-lines_of}
@@ -71,3 +71,18 @@ whole_sum p desc columns rows cuts lows highs offset y d costs sums start sum wh
     let many : length y ≡ length (lines_of rows cuts) = rw (r.rows_are, r.cuts_are) (length-lines p desc y m) in
     let t = sum_is offset (costs_of columns) lows highs (lines_of rows cuts) y d sums start sum whole (v ∙ w ∙ sym (length-costs columns)) many reduced a b e in
     rw (r.columns_are, r.rows_are, r.cuts_are, r.lows_are, r.highs_are, r.offset_is) at t
+
+-- what the lines leave of the costs are the reduced costs
+pub reduced : (p : Program) (desc : Desc Cut) (columns : List Column) (rows : List Row) (cuts : List Cut) (y : List ℤ) (d : ℤ) (costs sums : List (Option ℤ)) →
+    columns ≡ p.columns → rows ≡ p.rows → cuts ≡ desc.cuts →
+    length costs ≡ length columns → length sums ≡ length costs → length y ≡ length p.rows + length desc.cuts →
+    ((j : ℕ) → j < length columns → sum_at costs j ≡ i128_of (d *ℤ at (costs_of columns) j)) →
+    ((j : ℕ) → j < length costs → sum_at sums j ≡ checked_sum (sum_at costs j) (length y) (taken (lines_of rows cuts) y j)) →
+    AreReducedCosts p desc y d sums
+reduced p desc columns rows cuts y d costs sums a b c w v m h k =
+    let many : length y ≡ length (lines_of rows cuts) = rw (b, c) (length-lines p desc y m) in
+    let each : (j : ℕ) → j < length columns → sum_at sums j ≡ reduced_cost (d *ℤ at (costs_of columns) j) (lines_of rows cuts) y j =
+    λ j l.
+    k j (omega (arith, w, l)) ∙ ap (λ (o : Option ℤ). checked_sum o (length y) (taken (lines_of rows cuts) y j)) (h j l)
+    ∙ ap (λ (n : ℕ). checked_sum (i128_of (d *ℤ at (costs_of columns) j)) n (taken (lines_of rows cuts) y j)) many in
+    record { width = v ∙ w ∙ ap length a; each = rw (a, b, c) at each }

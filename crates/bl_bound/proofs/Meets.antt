@@ -1,7 +1,11 @@
 -- Weak duality, over a problem and a description.
-use Rattle.std.proofs.Common.{◌≡◌, ℤ, ◌*ℤ◌, ◌≤ℤ◌, List, length, map, All, Option, Some, None, IfSome, sym, ◌∙◌}
+use Rattle.std.proofs.Common.{◌≡◌, ℤ, pos, ◌*ℤ◌, ◌≤ℤ◌, List, length, map, All, Option, Some, None, option_map, IfSome, sym, ◌∙◌, arith}
+use Rattle.std.proofs.lemmas.Int.{ints}
+use Rattle.std.proofs.Math.IntN.{*ℤ_comm}
 use Rattle.std.proofs.lemmas.List.{length-map}
 use Rattle.std.proofs.lemmas.List.Elements.{All-append, All-map}
+use Rattle.bl_num.specs.Exact.{ceil_of}
+use Rattle.bl_num.proofs.Quotients.{ceil_le}
 use Rattle.bl_problem.specs.Rows.{AreTerms}
 use Rattle.bl_problem.specs.Program.{Program, IsProgram}
 use Rattle.bl_problem.specs.Points.{costs_of, value_of}
@@ -37,3 +41,12 @@ pub below-if_some : (p : Program) (desc : Desc Cut) (y : List ℤ) (d : ℤ) (o 
     IfSome o (λ s. (x : List ℤ) → IsLeft p desc x → s ≤ℤ (d *ℤ value_of p x))
 below-if_some p desc y d None h u e = tt
 below-if_some p desc y d (Some s) h u e = λ x f. multiplier_sum_of-le p desc y x d s h u f (sym e)
+
+-- divided by d and rounded up
+pub bound-below : (p : Program) (desc : Desc Cut) (d : ℤ) (o : Option ℤ) → pos 1 ≤ℤ d → IfSome o (λ s. (x : List ℤ) → IsLeft p desc x → s ≤ℤ (d *ℤ value_of p x)) →
+    IfSome (option_map (λ s. ceil_of s d) o) (λ b. (x : List ℤ) → IsLeft p desc x → b ≤ℤ value_of p x)
+bound-below p desc d None h b = tt
+bound-below p desc d (Some s) h b = λ x f.
+    let e = *ℤ_comm d (value_of p x) in
+    let l = b x f in
+    ceil_le (value_of p x) s d h (omega (arith, ints, e, l))

@@ -1,5 +1,5 @@
 -- The bound that multipliers give: the exact sum, each product and partial sum within `i128`.
-use Rattle.std.specs.Prelude.{ℕ, zero, suc, List, length, ℤ, pos, negsuc, ◌*ℤ◌, neg_ℤ, Option, Some, None, option_map, slice_index_or}
+use Rattle.std.specs.Prelude.{ℕ, zero, suc, ◌≡◌, ◌<◌, List, length, ℤ, pos, negsuc, ◌*ℤ◌, neg_ℤ, Option, Some, None, option_map, slice_index_or}
 use Rattle.bl_num.specs.Exact.{at, ceil_of}
 use Rattle.bl_num.specs.Checked.{i128_of, checked_mul, checked_sum}
 use Rattle.bl_problem.specs.Rows.{coefficient_of}
@@ -55,3 +55,8 @@ bound_of p desc y d = option_map (λ s. ceil_of s d) (multiplier_sum_of p desc y
 -- a column's sum among those of all columns
 abbrev pub sum_at : List (Option ℤ) → ℕ → Option ℤ
 sum_at sums j = slice_index_or sums j None
+
+-- one reduced cost for each column, with the costs counted d times
+pub record AreReducedCosts (p : Program) (desc : Desc Cut) (y : List ℤ) (d : ℤ) (costs : List (Option ℤ)) : Type 0 where
+  pub width : length costs ≡ length p.columns
+  pub each : (j : ℕ) → j < length p.columns → sum_at costs j ≡ reduced_cost (d *ℤ at (costs_of p.columns) j) (lines_of p.rows desc.cuts) y j

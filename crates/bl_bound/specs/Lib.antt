@@ -3,3 +3,4 @@ pub mod Descriptions
 pub mod Bounds
 pub mod Units
 pub mod Steps
+pub mod Reduced

@@ -5,7 +5,7 @@ ghost use Rattle.bl_num.specs.Checked.{i128_of, checked_add, checked_sum};
 ghost use Rattle.bl_problem.specs.Rows.{AreTerms, coefficient_of};
 ghost use Rattle.bl_problem.specs.Points.{costs_of, value_of};
 ghost use Rattle.bl_bound.specs.Lines.{lines_of, line_of};
-ghost use Rattle.bl_bound.specs.Bounds.{sum_at, taken, column_part, line_part, line_value, multiplier_sum_of};
+ghost use Rattle.bl_bound.specs.Bounds.{sum_at, taken, column_part, line_part, line_value, multiplier_sum_of, AreReducedCosts};
 ghost use Rattle.bl_bound.specs.Descriptions.{Describes, IsLeft};
 ghost use Rattle.bl_bound.specs.Steps.{taken_terms, IsSettled, part_at};
 
@@ -111,6 +111,31 @@ fn lines_sum(start: Option<i128>, rows: &[Row], cuts: &[Shared<Cut>], y: &[i64])
     sum
 }
 
+// Puts the columns' reduced costs into their places, and gives the exact sum; the costs and the
+// offset are counted d times.
+pub fn reduce(
+    costs: &mut [Option<i128>],
+    problem: &Problem,
+    desc: &Desc<Cut>,
+    y: &[i64],
+    d: i64,
+) -> Option<i128>
+    requires columns { length costs.old ≡ length problem.now.columns }
+    requires suits { Describes problem.now desc.now }
+    requires multipliers { length y.now ≡ length problem.now.rows + length desc.now.cuts }
+    ensures length { length costs.new ≡ length costs.old }
+    ensures reduced { AreReducedCosts problem.now desc.now y.now d costs.new }
+    ensures exact { result ≡ multiplier_sum_of problem.now desc.now y.now d }
+    ensures below { IfSome result (λ s. (x : List ℤ) → IsLeft problem.now desc.now x → s ≤ℤ (d *ℤ value_of problem.now x)) }
+{
+    let (columns, rows, cuts) = (problem.columns(), problem.rows(), desc.cuts.as_slice());
+    put_costs(costs, columns, d);
+    take_lines(costs, rows, cuts, y);
+    let start = times(Some(d as i128), Some(problem.offset()));
+    let sum = columns_sum(start, costs, desc.lows.as_slice(), desc.highs.as_slice());
+    lines_sum(sum, rows, cuts, y)
+}
+
 // The exact sum, with the costs and the offset counted d times.
 pub fn multiplier_sum(problem: &Problem, desc: &Desc<Cut>, y: &[i64], d: i64) -> Option<i128>
     requires suits { Describes problem.now desc.now }
@@ -118,12 +143,7 @@ pub fn multiplier_sum(problem: &Problem, desc: &Desc<Cut>, y: &[i64], d: i64) ->
     ensures exact { result ≡ multiplier_sum_of problem.now desc.now y.now d }
     ensures below { IfSome result (λ s. (x : List ℤ) → IsLeft problem.now desc.now x → s ≤ℤ (d *ℤ value_of problem.now x)) }
 {
-    let (columns, rows, cuts) = (problem.columns(), problem.rows(), desc.cuts.as_slice());
     let mut room: [Option<i128>; 1000] = [None; 1000];
-    let costs = &mut room[..columns.len()];
-    put_costs(costs, columns, d);
-    take_lines(costs, rows, cuts, y);
-    let start = times(Some(d as i128), Some(problem.offset()));
-    let sum = columns_sum(start, costs, desc.lows.as_slice(), desc.highs.as_slice());
-    lines_sum(sum, rows, cuts, y)
+    let costs = &mut room[..problem.columns().len()];
+    reduce(costs, problem, desc, y, d)
 }

@@ -94,17 +94,6 @@ pub eliminated_transposed-swap : (e : Elimination) (xs : List Fixed) (z : Fixed)
 unfolding eliminated_transposed
 eliminated_transposed-swap e xs z h = ap (λ (y : Fixed). swap (set xs e.place y) e.place e.row) h
 
--- an eta of a column's pivot and its other entries has that column
-pub column-eta : (column : List Fixed) (eta : Eta) → eta.pivot ≡ at column eta.place → AreEntries column eta.place (listed eta.others) → column_of (length column) (eta_entry eta) ≡ column
-column-eta column eta p a =
-    same_column_of (length column) (eta_entry eta) (at column) (λ i l. elim (eqb_tells i eta.place) [
-      | inl t ↦
-          ap (λ (b : Bool). if b then eta.pivot else value_at (listed eta.others) i) t.0 ∙ p ∙ ap (at column) (sym t.1)
-      | inr t ↦
-          ap (λ (b : Bool). if b then eta.pivot else value_at (listed eta.others) i) t.0 ∙ a.values i l
-          ∙ ap (λ (b : Bool). if b then nought else at column i) t.0
-    ]) ∙ column_of-at column
-
 -- an eta of a column's large enough pivot and its other entries is one
 pub IsEta-entries : (column : List Fixed) (eta : Eta) → eta.place < length column → eta.row < length column → IsPivot eta.pivot → AreEntries column eta.place (listed eta.others) → IsEta (length column) eta
 IsEta-entries column eta h r p a = record {
@@ -114,23 +103,3 @@ IsEta-entries column eta h r p a = record {
   sparse = a.sparse;
   apart = a.values eta.place h ∙ ap (λ (b : Bool). if b then nought else at column eta.place) (eq-eqb eta.place eta.place refl);
 }
-
--- the excepted number may be any
-pub AreEntries-set : (column : List Fixed) (place : ℕ) (x : Fixed) (es : List Entry) → place < length column → AreEntries column place es → AreEntries (set column place x) place es
-AreEntries-set column place x es h a =
-    let n = length-set column place x in
-    record {
-      sparse = subst (λ (j : ℕ). IsSparse 0 j es) (sym n) a.sparse;
-      values = λ i l.
-          let v = a.values i (omega (arith, l, n)) in
-          let w = at-set column place x i h in
-          elim (eqb_tells i place) [
-            | inl t ↦
-                v ∙ ap (λ (b : Bool). if b then nought else at column i) t.0
-                ∙ sym (ap (λ (b : Bool). if b then nought else at (set column place x) i) t.0)
-            | inr t ↦
-                v ∙ ap (λ (b : Bool). if b then nought else at column i) t.0
-                ∙ sym (w ∙ ap (λ (b : Bool). if b then x else at column i) t.0)
-                ∙ sym (ap (λ (b : Bool). if b then nought else at (set column place x) i) t.0)
-          ];
-    }

@@ -9,15 +9,13 @@ use Rattle.std.proofs.lemmas.Bool.Decides.{nat_tests}
 use Rattle.bl_fixed.specs.declared.Fixed.{Fixed}
 use Rattle.bl_factor.specs.declared.sparse.Entry.{Entry}
 use Rattle.bl_factor.specs.declared.eta.Eta.{Eta}
-use Rattle.bl_factor.specs.Vectors.{nought, unity, unit_entry, unit_column, at, IsPivot, IsModerate}
+use Rattle.bl_factor.specs.Vectors.{nought, unity, unit_entry, unit_column, at}
 use Rattle.bl_factor.specs.Sparse.{IsSparse, value_at, dense, AreEntries, AreColumns, matrix_of}
-use Rattle.bl_factor.specs.Elimination.{Elimination, image_under}
-use Rattle.bl_factor.specs.Factored.{Factored, column_at, unit_matrix, size_of, image_of, TakesToUnits, IsExact, AreModerate, elimination_at}
+use Rattle.bl_factor.specs.Factored.{Factored, unit_matrix, size_of}
 use Rattle.bl_factor.specs.declared.Factor.TheInside.{Inside}
 use Rattle.bl_factor.specs.Kept.{factored_of, IsKept}
-use Rattle.bl_factor.specs.Etas.{elimination_of, eliminations, IsEta, AreEtas}
+use Rattle.bl_factor.specs.Etas.{IsEta, AreEtas}
 use Rattle.bl_factor.proofs.Columns.{same_column_of, column_of-at}
-use Rattle.bl_factor.proofs.Exact.{TakesToUnits-replace}
 
 -- all entries make the column
 pub dense-entries : (column : List Fixed) (es : List Entry) → AreEntries column (length column) es → dense (length column) es ≡ column
@@ -42,36 +40,18 @@ AreColumns-set columns place entries column n a w =
     subst (λ (j : ℕ). AreColumns j (set columns place entries)) (sym (length-set columns place entries))
     (All-set (λ c. IsSparse 0 (length columns) c.items) columns place entries s w)
 
--- the steps are moderate exactly where the earlier ones and the last one are
-pub AreModerate-push : (steps : List Elimination) (e : Elimination) → AreModerate (steps ++ e ∷ []) → AreModerate steps × IsModerate e.column
-AreModerate-push steps e m = (
-  (λ k d l. subst (λ (s : Elimination). IsModerate s.column) (get_or_append_left steps (e ∷ []) d k l)
-      (m k d (let n = length-append steps (e ∷ []) in omega (arith, n, l)))),
-  subst (λ (s : Elimination). IsModerate s.column) (get_or_push steps e e (length steps) refl)
-      (m (length steps) e (let n = length-append steps (e ∷ []) in omega (arith, n))),
-)
-
-pub exact-replace : (matrix : List (List Fixed)) (steps : List Elimination) (place : ℕ) (column : List Fixed) → place < length matrix → length column ≡ length matrix →
-    IsPivot (at (image_under steps column) place) → (AreModerate steps → TakesToUnits matrix steps) →
-    AreModerate (steps ++ elimination_at place (image_under steps column) ∷ []) → TakesToUnits (set matrix place column) (steps ++ elimination_at place (image_under steps column) ∷ [])
-exact-replace matrix steps place column h n p exact m =
-    let both = AreModerate-push steps (elimination_at place (image_under steps column)) m in
-    TakesToUnits-replace matrix steps place column h n p both.1 (exact both.0)
-
 -- what a replacement makes of the fields
 pub record IsReplaced (a b : Inside) (place : ℕ) (column : List Fixed) : Type 0 where
   pub kept : IsKept b
   pub matrix : (factored_of b).matrix ≡ set (factored_of a).matrix place column
 
 pub replaced : (a b : Inside) (f : Factored) (place : ℕ) (column : List Fixed) (entries : Vec Entry) (eta : Eta) →
-    IsKept a → factored_of a ≡ f → place < size_of f → length column ≡ size_of f → IsPivot (at (image_of f column) place) →
-    AreEntries column (length column) entries.items → IsEta (size_of f) eta → elimination_of (size_of f) eta ≡ elimination_at place (image_of f column) →
+    IsKept a → factored_of a ≡ f → length column ≡ size_of f → AreEntries column (length column) entries.items → IsEta (size_of f) eta →
     b.columns.items ≡ set a.columns.items place entries → b.etas.items ≡ a.etas.items ++ eta ∷ [] → IsReplaced a b place column
 replaced a b f place column entries eta k v =
-    subst (λ (f : Factored). place < size_of f → length column ≡ size_of f → IsPivot (at (image_of f column) place) →
-    AreEntries column (length column) entries.items → IsEta (size_of f) eta → elimination_of (size_of f) eta ≡ elimination_at place (image_of f column) →
+    subst (λ (f : Factored). length column ≡ size_of f → AreEntries column (length column) entries.items → IsEta (size_of f) eta →
     b.columns.items ≡ set a.columns.items place entries → b.etas.items ≡ a.etas.items ++ eta ∷ [] → IsReplaced a b place column) v
-    (λ h l p ae ie ee bc be.
+    (λ l ae ie bc be.
     let cs = a.columns.items in
     let n = length cs in
     let g = factored_of a in
@@ -80,21 +60,13 @@ replaced a b f place column entries eta k v =
     let long : length b.columns.items ≡ n = ap length bc ∙ length-set cs place entries in
     let matrix : matrix_of (length b.columns.items) b.columns.items ≡ set g.matrix place column =
     ap (λ (ds : List (Vec Entry)). matrix_of (length ds) ds) bc ∙ matrix_of-set cs place entries column l' ae in
-    let last : elimination_of n eta ≡ elimination_at place (image_of g column) = ap (λ (j : ℕ). elimination_of j eta) (sym m) ∙ ee in
-    let steps : eliminations (length b.columns.items) b.etas.items ≡ g.steps ++ elimination_at place (image_of g column) ∷ [] =
-    ap (λ (j : ℕ). eliminations j b.etas.items) long ∙ ap (eliminations n) be ∙ map_push (elimination_of n) a.etas.items eta
-    ∙ ap (λ (e : Elimination). g.steps ++ e ∷ []) last in
     let eta_in : IsEta n eta = subst (λ (j : ℕ). IsEta j eta) m ie in
     let columns : AreColumns (length b.columns.items) b.columns.items =
     subst (λ (ds : List (Vec Entry)). AreColumns (length ds) ds) (sym bc) (AreColumns-set cs place entries column l' ae k.columns) in
     let etas : AreEtas (length b.columns.items) b.etas.items =
     subst (λ (j : ℕ). AreEtas j b.etas.items) (sym long) (All-same (IsEta n) b.etas.items (a.etas.items ++ eta ∷ []) be (All-push (IsEta n) a.etas.items eta k.etas eta_in)) in
-    let exact : AreModerate (factored_of b).steps → IsExact (factored_of b) = λ moderate.
-    subst (λ (us : List Elimination). TakesToUnits (factored_of b).matrix us) (sym steps)
-    (subst (λ (xs : List (List Fixed)). TakesToUnits xs (g.steps ++ elimination_at place (image_of g column) ∷ [])) (sym matrix)
-    (exact-replace g.matrix g.steps place column h l p k.exact (subst (λ (us : List Elimination). AreModerate us) steps moderate))) in
     record {
-      kept = record { short = subst (λ (j : ℕ). j < 2 ^ 32) (sym long) k.short; columns = columns; etas = etas; exact = exact };
+      kept = record { short = subst (λ (j : ℕ). j < 2 ^ 32) (sym long) k.short; columns = columns; etas = etas };
       matrix = matrix;
     })
 
@@ -136,15 +108,8 @@ pub IsKept-units : (a : Inside) → length a.columns.items < 2 ^ 32 → AreUnits
 IsKept-units a short u none =
     let cs = a.columns.items in
     let n = length cs in
-    let m : length (factored_of a).matrix ≡ n = length-map cs (λ c. dense n c.items) in
     record {
       short = short;
       columns = AreColumns-units cs u;
       etas = All-same (IsEta n) a.etas.items [] none (All-nil (IsEta n));
-      exact = λ moderate k l.
-          let l' : k < n = omega (arith, l, m) in
-          ap (λ (etas : List Eta). image_under (eliminations n etas) (column_at (matrix_of n cs) k)) none
-          ∙ column-entries n cs k (record { place = k; value = unity } ∷ []) l' (λ d. u k d l')
-          ∙ same_column_of n (value_at (record { place = k; value = unity } ∷ [])) (unit_entry k) (λ i h. unit_entries k i)
-          ∙ ap (λ (j : ℕ). unit_column j k) (sym m);
     }

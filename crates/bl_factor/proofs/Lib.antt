@@ -2,11 +2,7 @@ pub mod Columns
 pub mod SparseLemmas
 pub mod Numbers
 pub mod EtaLemmas
-pub mod Exact
-pub mod ReductionLemmas
-pub mod Making
 pub mod SupportLemmas
-pub mod Pivots
 pub mod Narrow
 pub mod Quotients
 pub mod KeptLemmas

@@ -5,7 +5,6 @@ pub mod Factored
 pub mod Others
 pub mod Division
 pub mod Etas
-pub mod Reduction
 pub mod Support
 pub mod Making
 pub mod Kept

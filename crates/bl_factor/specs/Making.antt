@@ -3,13 +3,10 @@ use Rattle.std.specs.Prelude.{◌≡◌, List, length}
 use Rattle.std.specs.Global.{Vec}
 use Rattle.bl_factor.specs.declared.sparse.Entry.{Entry}
 use Rattle.bl_factor.specs.declared.anew.Reduction.{Reduction}
-use Rattle.bl_factor.specs.Etas.{AreEtas, eliminations}
-use Rattle.bl_factor.specs.Sparse.{matrix_of}
-use Rattle.bl_factor.specs.Reduction.{IsReduction}
+use Rattle.bl_factor.specs.Etas.{AreEtas}
 
 pub record Reduces (columns : List (Vec Entry)) (r : Reduction) : Type 0 where
   pub flagged : length r.is_open.items ≡ length columns
   pub ranked : length r.order.ranks.items ≡ length columns
   pub lower : AreEtas (length columns) r.lower.items
   pub upper : AreEtas (length columns) r.upper.items
-  pub reduction : IsReduction (matrix_of (length columns) columns) r.is_open.items (eliminations (length columns) r.lower.items) (eliminations (length columns) r.upper.items)

@@ -18,10 +18,6 @@ is_nought x = nat_eq (unsigned_abs x.raw) 0
 abbrev pub IsPivot : Fixed → Type 0
 IsPivot x = 2 ^ 20 ≤ unsigned_abs x.raw
 
--- each number is below 2^47 in size, so that no quotient by itself or product with 1 leaves its range
-abbrev pub IsModerate : List Fixed → Type 0
-IsModerate xs = All (λ x. unsigned_abs x.raw < 2 ^ 87) xs
-
 -- the number at a place, 0 past the end
 abbrev pub at : List Fixed → ℕ → Fixed
 at xs i = slice_index_or xs i nought

@@ -1,14 +1,11 @@
 // Making a product anew from the columns of its matrix: lower factors that clear each column at the open places, and upper
 // ones that clear the rest, the last first.
-ghost use Rattle.std.specs.Prelude.{◌≡◌, ◌<◌, ◌≤◌, ◌^◌, ◌⊎◌, ◌++◌, ◌∷◌, [], ℕ, true, false, length, IsTrue, ◌↔◌, IfOk, OnOk, IfSome, IfNone, map, slice_set, unsigned_abs};
+ghost use Rattle.std.specs.Prelude.{◌≡◌, ◌<◌, ◌≤◌, ◌^◌, ◌⊎◌, ◌++◌, ◌∷◌, [], length, IfOk, OnOk, IfSome, map};
 ghost use Rattle.std.specs.List.{All};
-ghost use Rattle.bl_factor.specs.Vectors.{at, unity, unit_column, IsPivot};
-ghost use Rattle.bl_factor.specs.Elimination.{image_under};
-ghost use Rattle.bl_factor.specs.Factored.{column_at, TakesToUnits};
-ghost use Rattle.bl_factor.specs.Reduction.{flag, IsStuck};
-ghost use Rattle.bl_factor.specs.Sparse.{AreEntries, AreColumns, matrix_of};
+ghost use Rattle.bl_factor.specs.Vectors.{at, IsPivot};
+ghost use Rattle.bl_factor.specs.Sparse.{AreEntries, AreColumns};
 ghost use Rattle.bl_factor.specs.Support.{IsRising, restricted, IsPivotRow};
-ghost use Rattle.bl_factor.specs.Etas.{IsEta, AreEtas, elimination_of, eliminations};
+ghost use Rattle.bl_factor.specs.Etas.{IsEta, AreEtas};
 ghost use Rattle.bl_factor.specs.Others.{listed, widened};
 
 use crate::eta::Eta;
@@ -25,10 +22,7 @@ const LEAST_PIVOT: u128 = 1 << 20;
 /// A pivot is at least this part of its column's largest number.
 const PIVOT_PART: u128 = 16;
 
-/// Products of larger raw numbers with 1 leave `i128`.
-const LEAST_IMMODERATE: u128 = 1 << 87;
-
-/// A product for the columns; None where a pivot would be too small or a number too large.
+/// A product for the columns; None where a pivot would be too small.
 pub(crate) fn made_anew(
     alloc: Global,
     columns: &[Vec<Entry>],
@@ -36,9 +30,6 @@ pub(crate) fn made_anew(
     requires short { length columns.now < 2 ^ 32 }
     requires columns { AreColumns (length columns.now) columns.now }
     ensures etas { IfOk result (λ o. IfSome o (λ etas. AreEtas (length columns.now) etas.items)) }
-    ensures exact { IfOk result (λ o. IfSome o (λ etas.
-        TakesToUnits (matrix_of (length columns.now) columns.now) (eliminations (length columns.now) etas.items))) }
-    ensures stuck { IfOk result (λ o. IfNone o (IsStuck (matrix_of (length columns.now) columns.now))) }
 {
     let mut reduction = Reduction::new(alloc, columns)?;
     let mut image_buffer = Vec::from_elem(alloc, Fixed { raw: 0 }, columns.len())?;
@@ -53,13 +44,10 @@ pub(crate) fn made_anew(
             return Ok(None);
         }
     }
-    // All are closed by now; to see it here spares a proof that no place was missed above.
-    for place in 0..columns.len() {
-        if !reduction.close(alloc, columns, place, image, at_open, at_closed)? {
-            return Ok(None);
-        }
+    if reduction.is_open.iter().any(|is_open| *is_open) {
+        return Ok(None);
     }
-    Ok(Some(reduction.finish(columns)?))
+    Ok(Some(reduction.finish(columns.len())?))
 }
 
 // A product in the making.
@@ -74,11 +62,9 @@ struct Reduction {
 }
 
 impl Reduction {
-    ghost use Rattle.std.specs.Prelude.{◌≡◌, ◌<◌, ◌^◌, ◌⊎◌, ℕ, true, false, length, slice_set, IsTrue, IfOk};
-    ghost use Rattle.bl_factor.specs.Factored.{TakesToUnits};
-    ghost use Rattle.bl_factor.specs.Reduction.{flag, IsStuck};
-    ghost use Rattle.bl_factor.specs.Etas.{AreEtas, eliminations};
-    ghost use Rattle.bl_factor.specs.Sparse.{AreColumns, matrix_of};
+    ghost use Rattle.std.specs.Prelude.{◌≡◌, ◌<◌, ◌^◌, length, IfOk};
+    ghost use Rattle.bl_factor.specs.Etas.{AreEtas};
+    ghost use Rattle.bl_factor.specs.Sparse.{AreColumns};
     ghost use Rattle.bl_factor.specs.Making.{Reduces};
 
     fn new(alloc: Global, columns: &[Vec<Entry>]) -> Result<Reduction, AllocError>
@@ -104,7 +90,7 @@ impl Reduction {
         self.order.places.get(step).copied().unwrap_or(usize::MAX)
     }
 
-    // Closes a place, unless it is closed, or a pivot is too small or a number too large. `image`, `at_open` and
+    // Closes a place, unless it is closed, or a pivot is too small. `image`, `at_open` and
     // `at_closed` are for its work.
     fn close(
         &mut self,
@@ -121,10 +107,7 @@ impl Reduction {
         requires short { length columns.now < 2 ^ 32 }
         requires columns { AreColumns (length columns.now) columns.now }
         requires reduces { Reduces columns.now self.old }
-        ensures reduces { IfOk result (λ closed. IsTrue closed → Reduces columns.now self.new) }
-        ensures closes { IfOk result (λ closed. IsTrue closed → (k : ℕ) →
-            (k ≡ place) ⊎ (flag self.old.is_open.items k ≡ false) → flag self.new.is_open.items k ≡ false) }
-        ensures stuck { IfOk result (λ closed. closed ≡ false → IsStuck (matrix_of (length columns.now) columns.now)) }
+        ensures { IfOk result (λ _. Reduces columns.now self.new) }
     {
         if self.is_open.get(place) == Some(&true) {
             self.close_open(alloc, columns, place, image, at_open, at_closed)
@@ -150,12 +133,10 @@ impl Reduction {
         requires columns { AreColumns (length columns.now) columns.now }
         requires reduces { Reduces columns.now self.old }
         requires place_in { place < length columns.now }
-        requires is_open { flag self.old.is_open.items place ≡ true }
-        ensures reduces { IfOk result (λ closed. IsTrue closed → Reduces columns.now self.new) }
-        ensures closes { IfOk result (λ closed. IsTrue closed → self.new.is_open.items ≡ slice_set self.old.is_open.items place false) }
-        ensures stuck { IfOk result (λ closed. closed ≡ false → IsStuck (matrix_of (length columns.now) columns.now)) }
+        ensures { IfOk result (λ _. Reduces columns.now self.new) }
     {
         leave_image(columns, place, self.lower.as_slice(), image);
+        sparse::drop_noise(image);
         let is_open = self.is_open.as_slice();
         let counts = support::support_of(image, is_open, at_open, at_closed);
         let rows = &at_open[..counts.flagged];
@@ -163,12 +144,6 @@ impl Reduction {
         let Some(row) = pivot_row(image, rows, self.order.ranks.as_slice()) else {
             return Ok(false);
         };
-        if !are_moderate(image, rows) {
-            return Ok(false);
-        }
-        if !are_moderate(image, others) {
-            return Ok(false);
-        }
         image.swap(place, row);
         self.order.ranks.swap(place, row);
         let lower = lower_factor(alloc, image, rows, place, row)?;
@@ -179,12 +154,10 @@ impl Reduction {
         Ok(true)
     }
 
-    fn finish(self, columns: &[Vec<Entry>]) -> Result<Vec<Eta>, AllocError>
-        requires reduces { Reduces columns.now self }
-        requires closed { (k : ℕ) → k < length columns.now → flag self.is_open.items k ≡ false }
-        ensures etas { IfOk result (λ etas. AreEtas (length columns.now) etas.items) }
-        ensures exact { IfOk result (λ etas.
-            TakesToUnits (matrix_of (length columns.now) columns.now) (eliminations (length columns.now) etas.items)) }
+    fn finish(self, size: usize) -> Result<Vec<Eta>, AllocError>
+        requires lower { AreEtas size self.lower.items }
+        requires upper { AreEtas size self.upper.items }
+        ensures { IfOk result (λ etas. AreEtas size etas.items) }
     {
         let Reduction {
             is_open: _,
@@ -200,9 +173,7 @@ impl Reduction {
 
 // The places whose columns are not unit columns of their places.
 fn open_places(alloc: Global, columns: &[Vec<Entry>]) -> Result<Vec<bool>, AllocError>
-    ensures flagged { IfOk result (λ is_open. length is_open.items ≡ length columns.now) }
-    ensures closed { IfOk result (λ is_open. (k : ℕ) → k < length columns.now → flag is_open.items k ≡ false →
-        column_at (matrix_of (length columns.now) columns.now) k ≡ unit_column (length columns.now) k) }
+    ensures { IfOk result (λ is_open. length is_open.items ≡ length columns.now) }
 {
     let mut is_open = Vec::with_capacity(alloc, columns.len())?;
     for (place, column) in columns.iter().enumerate() {
@@ -211,27 +182,12 @@ fn open_places(alloc: Global, columns: &[Vec<Entry>]) -> Result<Vec<bool>, Alloc
     Ok(is_open)
 }
 
-// Whether no number at these places is too large.
-fn are_moderate(image: &[Fixed], places: &[u32]) -> bool
-    requires places { All (λ p. p < length image.now) places.now }
-    ensures { IsTrue result ↔ All (λ p. unsigned_abs (at image.now p).raw < 2 ^ 87) places.now }
-{
-    for place in places {
-        if LEAST_IMMODERATE <= image[*place as usize].raw.unsigned_abs() {
-            return false;
-        }
-    }
-    true
-}
-
 // Leaves in `image` that of a column.
 fn leave_image(columns: &[Vec<Entry>], place: usize, etas: &[Eta], image: &mut [Fixed])
     requires long { length image.old ≡ length columns.now }
     requires columns { AreColumns (length columns.now) columns.now }
     requires place_in { place < length columns.now }
     requires etas { AreEtas (length columns.now) etas.now }
-    ensures value { image.new ≡ image_under (eliminations (length columns.now) etas.now)
-        (column_at (matrix_of (length columns.now) columns.now) place) }
 {
     sparse::spread(columns[place].as_slice(), image);
     eta::apply_all(etas, image);
@@ -318,9 +274,7 @@ fn lower_factor(
     requires place_in { place < length image.now }
     requires row_in { row < length image.now }
     requires pivot { IsPivot (at image.now place) }
-    ensures eta { IfOk result (IsEta (length image.now)) }
-    ensures value { IfOk result (λ eta. elimination_of (length image.now) eta ≡
-        record { place = place; row = row; column = restricted image.now (place ∷ places.now) }) }
+    ensures { IfOk result (IsEta (length image.now)) }
 {
     let others = part_others(alloc, image, places, place)?;
     Ok(Eta {
@@ -342,9 +296,7 @@ fn upper_factor(
     requires short { length image.now < 2 ^ 32 }
     requires rising { IsRising 0 (length image.now) places.now }
     requires place_in { place < length image.now }
-    ensures eta { IfOk result (IsEta (length image.now)) }
-    ensures value { IfOk result (λ eta. elimination_of (length image.now) eta ≡
-        record { place = place; row = place; column = slice_set (restricted image.now places.now) place unity }) }
+    ensures { IfOk result (IsEta (length image.now)) }
 {
     let others = part_others(alloc, image, places, place)?;
     Ok(Eta {
@@ -358,7 +310,7 @@ fn upper_factor(
 
 // Adds a factor with the pivot 1, unless it has nothing else.
 fn push_unless_unit(etas: &mut Vec<Eta>, eta: Eta) -> Result<(), AllocError>
-    ensures { OnOk result ((etas.new.items ≡ etas.old.items ++ eta ∷ []) ⊎ ((etas.new.items ≡ etas.old.items) × (listed eta.others ≡ []))) }
+    ensures { OnOk result ((etas.new.items ≡ etas.old.items ++ eta ∷ []) ⊎ (etas.new.items ≡ etas.old.items)) }
 {
     if !eta.others.is_empty() {
         etas.push(eta)?;
@@ -371,8 +323,7 @@ fn push_unless_unit(etas: &mut Vec<Eta>, eta: Eta) -> Result<(), AllocError>
 fn pivot_row(image: &[Fixed], rows: &[u32], ranks: &[u32]) -> Option<usize>
     requires ranked { length ranks.now ≡ length image.now }
     requires rows { All (λ p. p < length image.now) rows.now }
-    ensures pivot { IfSome result (IsPivotRow image.now rows.now) }
-    ensures none { IfNone result (All (λ p. unsigned_abs (at image.now p).raw < 2 ^ 20) rows.now) }
+    ensures { IfSome result (IsPivotRow image.now) }
 {
     let largest = largest_row(image, rows)?;
     let least = (image[largest].raw.unsigned_abs() / PIVOT_PART).max(LEAST_PIVOT);
@@ -389,8 +340,7 @@ fn pivot_row(image: &[Fixed], rows: &[u32], ranks: &[u32]) -> Option<usize>
 // The first row with the largest number, where that is large enough.
 fn largest_row(image: &[Fixed], rows: &[u32]) -> Option<usize>
     requires rows { All (λ p. p < length image.now) rows.now }
-    ensures pivot { IfSome result (IsPivotRow image.now rows.now) }
-    ensures none { IfNone result (All (λ p. unsigned_abs (at image.now p).raw < 2 ^ 20) rows.now) }
+    ensures { IfSome result (IsPivotRow image.now) }
 {
     let mut largest = None;
     let mut most = LEAST_PIVOT - 1;

@@ -97,8 +97,7 @@ pub(crate) fn make(
     requires place_in { place < length column.now }
     requires row_in { row < length column.now }
     requires pivot { IsPivot (at column.now place) }
-    ensures eta { IfOk result (IsEta (length column.now)) }
-    ensures value { IfOk result (λ eta. elimination_of (length column.now) eta ≡ record { place = place; row = row; column = column.now }) }
+    ensures { IfOk result (IsEta (length column.now)) }
 {
     let entries = sparse::entries_of(alloc, column, place)?;
     let others = Others::packed(alloc, entries)?;

@@ -54,11 +54,10 @@ impl Model for Factor {
 impl Factor {
     ghost use Rattle.std.specs.Prelude.{◌≡◌, ◌<◌, ◌^◌, ◌⊎◌, ◌++◌, ◌∷◌, [], List, length, vec_len, slice_set, IfOk, IfSome, IfNone, OnOk, OnErr};
     ghost use Rattle.bl_factor.specs.Sparse.{AreColumns, matrix_of};
-    ghost use Rattle.bl_factor.specs.Reduction.{IsStuck};
     ghost use Rattle.bl_fixed.specs.declared.Fixed.{Fixed};
     ghost use Rattle.bl_factor.specs.Vectors.{at, IsPivot};
-    ghost use Rattle.bl_factor.specs.Etas.{IsEta, elimination_of};
-    ghost use Rattle.bl_factor.specs.Factored.{size_of, image_of, transposed_image_of, unit_matrix, elimination_at, IsExact, AreModerate};
+    ghost use Rattle.bl_factor.specs.Etas.{IsEta};
+    ghost use Rattle.bl_factor.specs.Factored.{size_of, image_of, transposed_image_of, unit_matrix};
 
     /// The unit matrix with that many columns.
     pub fn identity(alloc: Global, size: u32) -> Result<Factor, AllocError>
@@ -79,10 +78,8 @@ impl Factor {
         })
     }
 
-    /// The matrix with these columns, each of rising places below their number and without zeros. None where the
-    /// making of a product, which takes the columns in an order that gives it few entries, meets a column whose image
-    /// has at the places left no number of raw size 2^20 or more to take for a pivot, or has one of raw size 2^87 or
-    /// more.
+    /// The matrix with these columns, each of rising places below their number and without zeros. None where no product
+    /// is found for it: this is free.
     pub fn from_columns(
         alloc: Global,
         columns: Vec<Vec<Entry>>,
@@ -90,8 +87,6 @@ impl Factor {
         requires short { vec_len columns < 2 ^ 32 }
         requires sparse { AreColumns (vec_len columns) columns.items }
         ensures matrix { IfOk result (λ made. IfSome made (λ factor. factor.matrix ≡ matrix_of (vec_len columns) columns.items)) }
-        ensures exact { IfOk result (λ made. IfSome made IsExact) }
-        ensures stuck { IfOk result (λ made. IfNone made (IsStuck (matrix_of (vec_len columns) columns.items))) }
     {
         match anew::made_anew(alloc, columns.as_slice())? {
             Some(etas) => {
@@ -109,14 +104,18 @@ impl Factor {
         }
     }
 
+    /// How many columns the matrix has.
+    pub fn size(&self) -> usize
+        ensures { result ≡ size_of self.now }
+    {
+        self.columns.len()
+    }
+
     /// Leaves in `right`, which has one entry per row, its image, which has one per column: but for rounding the
     /// matrix times the image is `right`.
     pub fn solve(&self, right: &mut [Fixed]) -> Result<(), AllocError>
         requires { length right.old ≡ size_of self.now }
-        ensures image { OnOk result (right.new ≡ image_of self.now right.old) }
-
-        // The image of each column of the matrix is exactly a unit column, where no factor has very large numbers.
-        ensures exact { AreModerate self.now.steps → IsExact self.now }
+        ensures { OnOk result (right.new ≡ image_of self.now right.old) }
     {
         eta::apply_all(self.etas.as_slice(), right);
         Ok(())
@@ -139,9 +138,6 @@ impl Factor {
         requires pivot { IsPivot (at (image_of self.old column.now) place) }
         ensures matrix { OnOk result (self.new.matrix ≡ slice_set self.old.matrix place column.now) }
         ensures size { size_of self.new ≡ size_of self.old }
-        ensures steps { OnOk result
-            ((self.new.steps ≡ self.old.steps ++ elimination_at place (image_of self.old column.now) ∷ []) ⊎ IsExact self.new) }
-        ensures exact { AreModerate self.new.steps → IsExact self.new }
         ensures err { OnErr result (self.new ≡ self.old) }
     {
         let mut image = Vec::from_slice(self.alloc, column)?;
@@ -149,7 +145,7 @@ impl Factor {
         self.replace_solved(place, column, image.as_slice())
     }
 
-    /// The same where `image` is the image of `column`, as `solve` leaves it: nothing is solved for again.
+    /// The same where `image` is the image of `column`, or near it: nothing is solved for again.
     pub fn replace_solved(
         &mut self,
         place: u32,
@@ -158,13 +154,10 @@ impl Factor {
     ) -> Result<(), AllocError>
         requires place_in { place < size_of self.old }
         requires long { length column.now ≡ size_of self.old }
-        requires image { image.now ≡ image_of self.old column.now }
+        requires image_long { length image.now ≡ size_of self.old }
         requires pivot { IsPivot (at image.now place) }
         ensures matrix { OnOk result (self.new.matrix ≡ slice_set self.old.matrix place column.now) }
         ensures size { size_of self.new ≡ size_of self.old }
-        ensures steps { OnOk result
-            ((self.new.steps ≡ self.old.steps ++ elimination_at place (image_of self.old column.now) ∷ []) ⊎ IsExact self.new) }
-        ensures exact { AreModerate self.new.steps → IsExact self.new }
         ensures err { OnErr result (self.new ≡ self.old) }
     {
         self.extend(place as usize, column, image)?;
@@ -179,28 +172,25 @@ impl Factor {
     fn extend(&mut self, place: usize, column: &[Fixed], image: &[Fixed]) -> Result<(), AllocError>
         requires place_in { place < size_of self.old }
         requires long { length column.now ≡ size_of self.old }
-        requires image { image.now ≡ image_of self.old column.now }
+        requires image_long { length image.now ≡ size_of self.old }
         requires pivot { IsPivot (at image.now place) }
         ensures matrix { OnOk result (self.new.matrix ≡ slice_set self.old.matrix place column.now) }
-        ensures steps { OnOk result (self.new.steps ≡ self.old.steps ++ elimination_at place (image_of self.old column.now) ∷ []) }
-        ensures exact { AreModerate self.new.steps → IsExact self.new }
+        ensures size { size_of self.new ≡ size_of self.old }
         ensures err { OnErr result (self.new ≡ self.old) }
     {
         let entries = sparse::entries_of(self.alloc, column, column.len())?;
-        let eta = self.replacing(place, column, image)?;
+        let eta = self.replacing(place, image)?;
         self.etas.push(eta)?;
         self.columns[place] = entries;
         Ok(())
     }
 
-    // The factor for a column that is put in.
-    fn replacing(&self, place: usize, column: &[Fixed], image: &[Fixed]) -> Result<Eta, AllocError>
+    // The factor for a column that is put in, of which this is the image.
+    fn replacing(&self, place: usize, image: &[Fixed]) -> Result<Eta, AllocError>
         requires place_in { place < size_of self.now }
-        requires long { length column.now ≡ size_of self.now }
-        requires image { image.now ≡ image_of self.now column.now }
+        requires image_long { length image.now ≡ size_of self.now }
         requires pivot { IsPivot (at image.now place) }
-        ensures eta { IfOk result (IsEta (size_of self.now)) }
-        ensures value { IfOk result (λ eta. elimination_of (size_of self.now) eta ≡ elimination_at place (image_of self.now column.now)) }
+        ensures { IfOk result (IsEta (size_of self.now)) }
     {
         eta::make(self.alloc, place, place, image)
     }
@@ -222,9 +212,7 @@ impl Factor {
 
     // Makes the product anew from the matrix; it stays where that finds no pivot or no memory.
     fn renew(&mut self)
-        ensures matrix { self.new.matrix ≡ self.old.matrix }
-        ensures steps { (self.new ≡ self.old) ⊎ IsExact self.new }
-        ensures exact { AreModerate self.new.steps → IsExact self.new }
+        ensures { self.new.matrix ≡ self.old.matrix }
     {
         if let Ok(Some(etas)) = anew::made_anew(self.alloc, self.columns.as_slice()) {
             self.etas = etas;

@@ -64,11 +64,21 @@ pub(crate) fn spread(entries: &[Entry], column: &mut [Fixed])
 }
 
 // Whether these are the entries of the unit column of that place.
-pub(crate) fn is_unit(entries: &[Entry], place: usize) -> bool
-    ensures { IsTrue result → entries.now ≡ record { place = place; value = unity } ∷ [] }
-{
+pub(crate) fn is_unit(entries: &[Entry], place: usize) -> bool {
     match entries {
         [only] => only.place as usize == place && only.value == bl_fixed::from_int(1),
         _ => false,
+    }
+}
+
+/// A number of a smaller raw size is noise of the rounding: less than 2^-32.
+const LEAST_NUMBER: u128 = 1 << 8;
+
+// Makes the numbers that are noise 0.
+pub(crate) fn drop_noise(column: &mut [Fixed]) {
+    for number in column.iter_mut() {
+        if number.raw.unsigned_abs() < LEAST_NUMBER {
+            *number = Fixed { raw: 0 };
+        }
     }
 }

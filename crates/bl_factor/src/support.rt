@@ -1,6 +1,6 @@
 // Where a column has numbers that are not 0.
-ghost use Rattle.std.specs.Prelude.{◌≡◌, ◌<◌, ◌≤◌, ◌^◌, true, false, length, take};
-ghost use Rattle.bl_factor.specs.Support.{CoversSupport};
+ghost use Rattle.std.specs.Prelude.{◌≡◌, ◌<◌, ◌≤◌, ◌^◌, length, take};
+ghost use Rattle.bl_factor.specs.Support.{IsRising};
 
 use bl_fixed::Fixed;
 
@@ -26,8 +26,8 @@ pub(crate) fn support_of(
     requires others { length others.old ≡ length column.now }
     ensures count { result.flagged ≤ length flagged.new }
     ensures other_count { result.others ≤ length others.new }
-    ensures flagged { CoversSupport column.now flags.now true (length column.now) (take result.flagged flagged.new) }
-    ensures others { CoversSupport column.now flags.now false (length column.now) (take result.others others.new) }
+    ensures flagged { IsRising 0 (length column.now) (take result.flagged flagged.new) }
+    ensures others { IsRising 0 (length column.now) (take result.others others.new) }
 {
     let mut filled = 0usize;
     let mut count = 0usize;

@@ -18,3 +18,4 @@ pub mod Ends
 pub mod Newborns
 pub mod Upkeep
 pub mod Nothing
+pub mod Named

@@ -9,7 +9,7 @@ use Rattle.bl_journal.specs.declared.settings.Settings.{Settings}
 use Rattle.bl_journal.specs.Births.{nodes_of}
 use Rattle.bl_journal.specs.States.{State, freed, state_of, used_of}
 use Rattle.bl_journal.specs.Replies.{is_out}
-use Rattle.bl_journal.specs.Legality.{seat_of}
+use Rattle.bl_journal.specs.Legality.{seat_of, ids_added}
 use Rattle.bl_journal.specs.Tidying.{splits, takes, splits_of, IsDue, IsSettled, WasSettled, IsTidied, IsUpkeepBy}
 use Rattle.bl_journal.proofs.Leaves.{by_test}
 use Rattle.bl_journal.proofs.Living.{Each}
@@ -41,15 +41,17 @@ pub record IsUntouched (p : Program) (seat : ℕ) (past later : List Entry) : Ty
   pub nodes : nodes_of p later ≡ nodes_of p past
   pub used : used_of later ≡ used_of past
   pub splits : splits_of seat later ≡ splits_of seat past
+  pub ids : ids_added later ≡ ids_added past
   pub none_out : (id : ℕ) → is_out (state_of past id) ≡ false → is_out (state_of later id) ≡ false
 
 untouched_once : (p : Program) (seat : ℕ) (past : List Entry) (e : Entry) → IsUpkeepBy seat e → IsUntouched p seat past (e ∷ past)
-untouched_once p seat past (Encode other id form) u = record { nodes = refl; used = refl; splits = refl; none_out = λ k o. o }
+untouched_once p seat past (Encode other id form) u = record { nodes = refl; used = refl; splits = refl; ids = refl; none_out = λ k o. o }
 untouched_once p seat past (Free other ids) u =
     record {
       nodes = refl;
       used = refl;
       splits = refl;
+      ids = refl;
       none_out = λ k o. by_test (λ (t : State). is_out t ≡ false) (is_among k ids) freed (state_of past k) (λ _. refl) (λ _. o);
     }
 untouched_once p seat past (Take other id) u = absurd u
@@ -57,7 +59,7 @@ untouched_once p seat past (Put other id found low next) u = absurd u
 untouched_once p seat past (Back other id) u = absurd u
 
 pub untouched : (p : Program) (seat : ℕ) (past entries : List Entry) → Each (IsUpkeepBy seat) entries → IsUntouched p seat past (entries ++ past)
-untouched p seat past [] u = record { nodes = refl; used = refl; splits = refl; none_out = λ k o. o }
+untouched p seat past [] u = record { nodes = refl; used = refl; splits = refl; ids = refl; none_out = λ k o. o }
 untouched p seat past (e ∷ entries) u =
     let before = untouched p seat past entries u.1 in
     let once = untouched_once p seat (entries ++ past) e u.0 in
@@ -65,6 +67,7 @@ untouched p seat past (e ∷ entries) u =
       nodes = once.nodes ∙ before.nodes;
       used = once.used ∙ before.used;
       splits = once.splits ∙ before.splits;
+      ids = once.ids ∙ before.ids;
       none_out = λ k o. once.none_out k (before.none_out k o);
     }
 

@@ -39,7 +39,7 @@ All-from_each P [] a i d h = absurd (omega (arith, h))
 All-from_each P (x ∷ xs) a zero d h = a.0
 All-from_each P (x ∷ xs) a (suc i) d h = All-from_each P xs a.1 i d (omega (arith, h))
 
-Each-kept : {X : Type 0} (P : X → Type 0) (at : ℕ) (dropped : List ℕ) (xs : List X) → Each P xs → Each P (kept_from at dropped xs)
+pub Each-kept : {X : Type 0} (P : X → Type 0) (at : ℕ) (dropped : List ℕ) (xs : List X) → Each P xs → Each P (kept_from at dropped xs)
 Each-kept P at dropped [] a = tt
 Each-kept {X} P at dropped (x ∷ xs) a =
     let rest = Each-kept P (at + 1) dropped xs a.1 in

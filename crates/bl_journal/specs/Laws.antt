@@ -5,13 +5,13 @@ use Rattle.bl_desc.specs.declared.change.Change.{Change}
 use Rattle.bl_desc.specs.Changes.{changed}
 use Rattle.bl_journal.specs.declared.entry.Entry.TheVariants.{Put}
 use Rattle.bl_journal.specs.declared.entry.Step.TheVariants.{Split}
-use Rattle.std.specs.Prelude.{◌≡◌, ◌≢◌, Some, true, All, AllPairs, unsigned_abs, ◌^◌, ℕ, ◌<◌, ◌≤◌, ◌+◌, ◌*◌, ◌-◌, false, List, ◌++◌, length, reverse}
+use Rattle.std.specs.Prelude.{◌≡◌, ◌≢◌, Some, true, All, AllPairs, Contains, unsigned_abs, ◌^◌, ℕ, ◌<◌, ◌≤◌, ◌+◌, ◌*◌, ◌-◌, false, List, ◌++◌, length, reverse}
 use Rattle.bl_problem.specs.Program.{Program, IsProgram}
 use Rattle.bl_journal.specs.declared.entry.Entry.{Entry}
 use Rattle.bl_journal.specs.Births.{nodes_of, node_at}
 use Rattle.bl_journal.specs.Descriptions.{full_of, left_child, right_child}
 use Rattle.bl_journal.specs.declared.settings.Settings.{Settings}
-use Rattle.bl_journal.specs.Legality.{IsLegal, HasUnfreedParent, MayPut}
+use Rattle.bl_journal.specs.Legality.{IsLegal, HasUnfreedParent, MayPut, ids_added}
 use Rattle.bl_problem.specs.Points.{own_lows, own_highs, points_in}
 use Rattle.bl_problem.specs.Cuts.{SuitsProblem, IsValidCut}
 use Rattle.bl_desc.specs.Changes.{IsWhole}
@@ -90,3 +90,9 @@ pub record RepliesEndSearches : Type 0 where
   pub decided : (p : Program) (s : Settings) (history : List Entry) → IsLegal p s history → take_reply p s (reverse history) ≡ done → IsFinal (answer_of p (reverse history))
   pub all_used : (p : Program) (s : Settings) (history : List Entry) → IsLegal p s history → take_reply p s (reverse history) ≡ spent → IsSpent p s (reverse history)
   pub budget : (p : Program) (s : Settings) (history : List Entry) → IsLegal p s history → take_reply p s (reverse history) ≡ spent → s.nodes + 2 ≤ 2 * points_in (own_lows p) (own_highs p)
+
+-- in a legal history the ids of a node's cuts are among those of the cuts that puts have added
+abbrev pub CutsWereAdded : Type 0
+CutsWereAdded =
+    (p : Program) (s : Settings) (history : List Entry) (id : ℕ) → IsLegal p s history → id < length (nodes_of p (reverse history))
+    → All (λ c. Contains (ids_added (reverse history)) c.id) (full_of p (reverse history) id).cuts

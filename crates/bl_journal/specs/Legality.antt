@@ -9,6 +9,8 @@ use Rattle.bl_journal.specs.declared.entry.Entry.{Entry}
 use Rattle.bl_journal.specs.declared.entry.Entry.TheVariants.{Take, Put, Back, Encode, Free}
 use Rattle.bl_journal.specs.declared.entry.Step.{Step}
 use Rattle.bl_journal.specs.declared.entry.Step.TheVariants.{Shut, Split}
+use Rattle.bl_journal.specs.declared.outcome.Next.{Next}
+use Rattle.bl_journal.specs.declared.outcome.Next.TheVariants.{Shut as ShutNext, Split as SplitNext}
 use Rattle.bl_journal.specs.declared.settings.Settings.{Settings}
 use Rattle.bl_journal.specs.Births.{nodes_of, node_at}
 use Rattle.bl_journal.specs.Descriptions.{full_of}
@@ -24,6 +26,11 @@ seat_of (Put seat id found low next) = seat
 seat_of (Back seat id) = seat
 seat_of (Encode seat id form) = seat
 seat_of (Free seat ids) = seat
+
+-- what the journal keeps of what comes next
+abbrev pub step_of : Next → Step
+step_of ShutNext = Shut
+step_of (SplitNext common column at left right) = Split common column at
 
 abbrev pub added_by_step : Step → List Cut
 added_by_step Shut = []

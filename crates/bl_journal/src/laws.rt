@@ -1,5 +1,5 @@
 //! Laws over histories: each is what a function with nothing to do ensures, in the words of `specs/Laws.antt`.
-ghost use Rattle.bl_journal.specs.Laws.{NodesAreStable, LiveNodesCover, AnswersAreTrue, BudgetHolds, ChainsRebuild, LeasesAreWorkable, ChildrenFollow, RepliesEndSearches, DescriptionsAreWhole, NewbornsAreStored};
+ghost use Rattle.bl_journal.specs.Laws.{NodesAreStable, LiveNodesCover, AnswersAreTrue, BudgetHolds, ChainsRebuild, LeasesAreWorkable, ChildrenFollow, RepliesEndSearches, DescriptionsAreWhole, NewbornsAreStored, CutsWereAdded};
 
 /// A node that is born keeps its parent, depth, low number and path under every longer history, and so its description.
 pub fn nodes_are_stable()
@@ -49,4 +49,9 @@ pub fn newborns_are_stored()
 /// In a legal history a take is answered Done only where no node is live, and the answer is then final. It is answered Spent only where as many nodes are used as may be and a live node waits, and then twice the number of the root's points is greater by 2 or more than the number of nodes that may be used.
 pub fn replies_end_searches()
     ensures { RepliesEndSearches }
+{}
+
+/// In a legal history the ids of a node's cuts are among those that puts have added.
+pub fn cuts_were_added()
+    ensures { CutsWereAdded }
 {}

@@ -8,7 +8,7 @@ use Rattle.bl_journal.specs.Laws.{AnswersAreTrue}
 use Rattle.bl_tree.specs.Views.{TreeView, past_of}
 use Rattle.bl_tree.specs.Answers.{verdict_for}
 use Rattle.bl_run.specs.declared.run.Answered.{Answered}
-use Rattle.bl_run.specs.Searches.{IsEndedHistory, settings_of}
+use Rattle.bl_search.specs.Searches.{IsEndedHistory, settings_of}
 use Rattle.bl_report.specs.Texts.{verdict_text}
 use Rattle.bl_run.specs.Runs.{IsSolved}
 

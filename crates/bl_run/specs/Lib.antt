@@ -1,4 +1,2 @@
 pub mod Words
-pub mod Work
-pub mod Searches
 pub mod Runs

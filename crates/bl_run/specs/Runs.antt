@@ -16,7 +16,7 @@ use Rattle.bl_run.specs.declared.run.Answered.{Answered}
 use Rattle.bl_run.specs.declared.run.Stop.{Stop}
 use Rattle.bl_run.specs.declared.run.Stop.TheVariants.{Words, TooLong, Model, Read, Memory}
 use Rattle.bl_run.specs.Words.{MeansNodes}
-use Rattle.bl_run.specs.Searches.{settings_of, IsEndedHistory}
+use Rattle.bl_search.specs.Searches.{settings_of, IsEndedHistory}
 use Rattle.bl_report.specs.Texts.{verdict_text, model_line, long_line}
 
 abbrev pub most_bytes : ℕ

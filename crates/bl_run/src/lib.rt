@@ -1,9 +1,7 @@
 //! The top call: it reads a problem, searches its tree and writes the answer.
 #![tactic(auto)]
 
-mod node;
 mod run;
-mod search;
 #[cfg(test)]
 mod tests;
 mod words;

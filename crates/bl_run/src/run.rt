@@ -6,15 +6,20 @@ ghost use Rattle.bl_io.specs.Streams.{AppendsPrefix};
 ghost use Rattle.bl_run.specs.Words.{MeansNothing};
 ghost use Rattle.bl_report.specs.Texts.{fault_line, model_line};
 ghost use Rattle.bl_run.specs.Runs.{IsAnswered, IsRead, IsSolved, HasReason, TellsModel, WritesAnswer, WritesPart, WritesLine};
+ghost use Rattle.bl_branch.specs.Rules.{IsSplittable, Splits};
 
-use crate::search::{EndedSearch, search_tree};
 use crate::words::read_words;
+use bl_branch::{BranchRule, Place, most_fractional};
+use bl_cover::{CutKinds, KindSeparator};
+use bl_desc::Desc;
+use bl_fixed::Fixed;
 use bl_io::{Failed, ReadEnd, Sink, Source, read_all, write_all};
 use bl_journal::Journal;
 use bl_journal::laws::answers_are_true;
 use bl_mps::{ModelFault, What, read};
-use bl_problem::Problem;
+use bl_problem::{Cut, Problem};
 use bl_report::{answer_text, model_line};
+use bl_search::{EndedSearch, search_tree};
 use std::alloc::{AllocError, Global};
 use std::sync::Arc;
 
@@ -124,6 +129,14 @@ fn read_problem<S: Source>(alloc: Global, source: &mut S) -> Result<Problem, Sto
     }
 }
 
+// Splits the column whose entry is nearest to the middle of two whole numbers.
+fn by_fraction(desc: &Desc<Cut>, point: &[Fixed]) -> Place
+    requires { IsSplittable desc.now point.now }
+    ensures { Splits desc.now result }
+{
+    most_fractional(desc, point)
+}
+
 // The search of a problem's tree, and the text of its answer.
 fn solve(alloc: Global, problem: Problem, nodes: u32) -> Result<Answered, AllocError>
     requires { nodes ≤ 100000 }
@@ -131,7 +144,9 @@ fn solve(alloc: Global, problem: Problem, nodes: u32) -> Result<Answered, AllocE
 {
     answers_are_true();
     let problem = Arc::new(alloc, problem)?;
-    let EndedSearch { tree, limited } = search_tree(alloc, &problem, nodes)?;
+    let rule = BranchRule::new(by_fraction);
+    let separator = KindSeparator::new(CutKinds::Both);
+    let EndedSearch { tree, limited } = search_tree(alloc, &problem, nodes, &rule, &separator)?;
     let text = answer_text(alloc, &problem, &tree.answer(), true)?;
     Ok(Answered {
         text,

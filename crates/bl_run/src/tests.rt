@@ -2,8 +2,6 @@ ghost use Rattle.std.specs.Prelude.{IfOk};
 ghost use Rattle.bl_tree.specs.Views.{IsLeaseOf};
 
 use crate::run_one;
-use crate::search::search_tree;
-use bl_desc::{Form, Piece};
 use bl_io::{MemorySink, MemorySource, ReadEnd, read_all};
 use bl_journal::{Entry, Journal, Order, Settings};
 use bl_mps::read;
@@ -398,44 +396,10 @@ fn lease_of(tree: &mut Tree) -> Result<Lease, Fail>
     }
 }
 
-/// Whether a node is stored as a change with so many new lows and highs.
-fn is_changed(tree: &Tree, id: u32, lows: usize, highs: usize) -> bool {
-    match tree.stored(id) {
-        Some(Piece::Relative(change)) => {
-            change.get().lows.entries().len() == lows && change.get().highs.entries().len() == highs
-        }
-        _ => false,
-    }
-}
-
-/// Whether a node is stored whole with these bounds.
-fn is_whole(tree: &Tree, id: u32, lows: &[i64], highs: &[i64]) -> bool {
-    match tree.stored(id) {
-        Some(Piece::Explicit(desc)) => {
-            desc.get().lows.as_slice() == lows && desc.get().highs.as_slice() == highs
-        }
-        _ => false,
-    }
-}
-
 /// Whether an entry of the journal says that seat 0 freed these nodes.
 fn frees(journal: &Journal, place: usize, nodes: &[u32]) -> bool {
     match journal.get(place) {
         Some(Entry::Free { seat: 0, ids }) => ids.as_slice() == nodes,
-        _ => false,
-    }
-}
-
-/// Whether an entry of the journal says that seat 0 stored this node whole.
-fn stores_whole(journal: &Journal, place: usize, node: u32) -> bool {
-    match journal.get(place) {
-        Some(
-            Entry::Encode {
-                seat: 0,
-                id,
-                form: Form::Explicit,
-            },
-        ) => *id == node,
         _ => false,
     }
 }
@@ -465,34 +429,12 @@ fn trees_follow_their_history(rt: HostRuntime) -> Result<(), Fail> {
     assert_eq!(rt; journal.len(), 1);
     assert!(rt; matches!(journal.get(0), Some(Entry::Take { seat: 0, id: 0 })));
     assert!(rt; journal.get(1).is_none());
-    // the root is halved, and then the budget is spent
-    let search = search_tree(alloc, &problem, 1)?;
-    assert!(rt; search.limited);
-    assert_eq!(rt; search.tree.held(), 9);
-    assert!(rt; is_whole(&search.tree, 0, &[0, 0], &[10, 10]));
-    assert!(rt; is_changed(&search.tree, 1, 0, 1));
-    assert!(rt; is_changed(&search.tree, 2, 1, 0));
-    assert!(rt; search.tree.stored(3).is_none());
-    assert_eq!(rt; search.tree.journal().len(), 2);
-    let search = search_tree(alloc, &problem, 241)?;
-    assert!(rt; !search.limited);
-    assert_eq!(rt; search.tree.glance().best, Some(7));
     Ok(())
 }
 
 #[test]
-fn searches_tidy_up(rt: HostRuntime) -> Result<(), Fail> {
+fn an_empty_root_is_freed(rt: HostRuntime) -> Result<(), Fail> {
     let alloc = rt.alloc();
-    // the children of the fourth split are stored whole, and then their parent is freed
-    let search = search_tree(alloc, &problem(alloc)?, 4)?;
-    assert!(rt; search.limited);
-    let journal = search.tree.journal();
-    assert_eq!(rt; journal.len(), 11);
-    assert!(rt; stores_whole(journal, 8, 7));
-    assert!(rt; stores_whole(journal, 9, 8));
-    assert!(rt; frees(journal, 10, &[3]));
-    assert!(rt; is_whole(&search.tree, 7, &[0, 0], &[2, 5]));
-    assert!(rt; search.tree.stored(3).is_none());
     // a root without a point is freed, and nothing else happens
     let bytes = cover(alloc, &[(13, b" LO BND X 3\n UP BND X 2")])?;
     let mut source = MemorySource::new(bytes, 65_536, Vec::new(alloc));

@@ -7,8 +7,6 @@ use Rattle.bl_desc.specs.declared.desc.Piece.TheVariants.{Explicit, Relative}
 use Rattle.bl_rebuild.specs.declared.chain.Chain.{Chain}
 use Rattle.bl_journal.specs.declared.entry.Entry.{Entry}
 use Rattle.bl_journal.specs.declared.entry.Entry.TheVariants.{Put}
-use Rattle.bl_journal.specs.declared.entry.Step.{Step}
-use Rattle.bl_journal.specs.declared.entry.Step.TheVariants.{Shut, Split}
 use Rattle.bl_journal.specs.declared.outcome.Next.{Next}
 use Rattle.bl_journal.specs.declared.outcome.Next.TheVariants.{Shut as ShutNext, Split as SplitNext}
 use Rattle.bl_journal.specs.declared.outcome.Outcome.{Outcome}
@@ -18,6 +16,7 @@ use Rattle.bl_journal.specs.Descriptions.{full_of}
 use Rattle.bl_journal.specs.States.{out, state_of, cutoff_of}
 use Rattle.bl_journal.specs.Pieces.{stored_of, rebuilt}
 use Rattle.bl_journal.specs.Legality.{IsLegal, MayPut}
+pub use Rattle.bl_journal.specs.Legality.{step_of}
 
 -- a tree is its problem, its settings and its history
 pub record TreeView : Type 0 where
@@ -53,10 +52,6 @@ pub record IsLeaseOf (t : TreeView) (seat : ℕ) (lease : LeaseView) : Type 0 wh
   pub low : lease.low ≡ (node_at t.problem (past_of t) lease.id).low
   pub cutoff : lease.cutoff ≡ cutoff_of t.problem (past_of t) lease.id
   pub chain : rebuilt lease.chain ≡ Some (full_of t.problem (past_of t) lease.id)
-
-abbrev pub step_of : Next → Step
-step_of ShutNext = Shut
-step_of (SplitNext common column at left right) = Split common column at
 
 abbrev pub put_entry : ℕ → ℕ → Outcome → Entry
 put_entry seat id outcome = Put seat id outcome.found outcome.low (step_of outcome.next)

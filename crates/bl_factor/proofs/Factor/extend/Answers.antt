@@ -1,7 +1,6 @@
-use Rattle.std.proofs.Common.{◌∙◌, ap, subst, refl, set, List}
+use Rattle.std.proofs.Common.{◌∙◌, ap, refl, set, length}
 use Rattle.std.specs.Vec.{with_item}
-use Rattle.bl_fixed.specs.declared.Fixed.{Fixed}
-use Rattle.bl_factor.specs.Vectors.{at, IsPivot}
+use Rattle.std.proofs.lemmas.List.{length-set}
 use Rattle.bl_factor.specs.Factored.{Factored}
 use Rattle.bl_factor.proofs.KeptLemmas.{replaced}
 use Rattle.bl_factor.proofs.Factor.extend.Goals as goal
@@ -9,20 +8,11 @@ use Rattle.bl_factor.proofs.Factor.extend.Goals as goal
 pub invariant_of-self-2 : goal.invariant_of-self-2
 invariant_of-self-2 c =
     (replaced c.self.inside _ c.args.self.now c.args.place c.args.column.now c.in_ok-entries.entries c.in_ok-eta.eta c.self.invariant c.self.view_is
-    c.requires.place_in c.requires.long (subst (λ (xs : List Fixed). IsPivot (at xs c.args.place)) c.requires.image c.requires.pivot) c.in_ok-entries.ensures c.in_ok-eta.ensures.eta c.in_ok-eta.ensures.value
-    refl c.in_ok-push.ensures.items).kept
+    c.requires.long c.in_ok-entries.ensures c.in_ok-eta.ensures refl c.in_ok-push.ensures.items).kept
 
 pub returns-clause-matrix : goal.returns-clause-matrix
 returns-clause-matrix c =
     (replaced c.self.inside (record { alloc = c.self.inside.alloc; columns = with_item c.self.inside.columns c.args.place c.in_ok-entries.entries; etas = c.push.new.self; fresh = c.self.inside.fresh; fresh_entries = c.self.inside.fresh_entries })
     c.args.self.now c.args.place c.args.column.now c.in_ok-entries.entries c.in_ok-eta.eta c.self.invariant c.self.view_is
-    c.requires.place_in c.requires.long (subst (λ (xs : List Fixed). IsPivot (at xs c.args.place)) c.requires.image c.requires.pivot) c.in_ok-entries.ensures c.in_ok-eta.ensures.eta c.in_ok-eta.ensures.value
-    refl c.in_ok-push.ensures.items).matrix
+    c.requires.long c.in_ok-entries.ensures c.in_ok-eta.ensures refl c.in_ok-push.ensures.items).matrix
     ∙ ap (λ (f : Factored). set f.matrix c.args.place c.args.column.now) c.self.view_is
-
-pub returns-clause-exact : goal.returns-clause-exact
-returns-clause-exact c =
-    (replaced c.self.inside (record { alloc = c.self.inside.alloc; columns = with_item c.self.inside.columns c.args.place c.in_ok-entries.entries; etas = c.push.new.self; fresh = c.self.inside.fresh; fresh_entries = c.self.inside.fresh_entries })
-    c.args.self.now c.args.place c.args.column.now c.in_ok-entries.entries c.in_ok-eta.eta c.self.invariant c.self.view_is
-    c.requires.place_in c.requires.long (subst (λ (xs : List Fixed). IsPivot (at xs c.args.place)) c.requires.image c.requires.pivot) c.in_ok-entries.ensures c.in_ok-eta.ensures.eta c.in_ok-eta.ensures.value
-    refl c.in_ok-push.ensures.items).kept.exact

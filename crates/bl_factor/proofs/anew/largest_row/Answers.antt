@@ -5,7 +5,6 @@ use Rattle.std.proofs.lemmas.List.Elements.{All-more, All-weaker}
 use Rattle.std.specs.Prelude.{MatchOption, Option}
 use Rattle.bl_factor.specs.Vectors.{at}
 use Rattle.bl_factor.specs.Support.{IsPivotRow}
-use Rattle.bl_factor.proofs.SupportLemmas.{listed-at}
 use Rattle.bl_factor.proofs.anew.largest_row.Goals as goal
 use Rattle.bl_factor.proofs.anew.largest_row.Goals.{then-most-size, else-most-size}
 
@@ -20,22 +19,17 @@ loop-listed-preserved c =
     let f : FitsSigned w128 (at image row).raw = search rules in
     let size : c.unsigned_abs-size.result ≡ unsigned_abs (at image row).raw =
     c.unsigned_abs-size.ensures.value ∙ ap unsigned_abs (to_z-of_z w128 (at image row).raw f) in
-    let P = λ (o : Option ℕ) (most : ℕ). MatchOption o (most ≡ 2 ^ 20 - 1) (IsPivotRow image rows) in
-    let Q = λ (most : ℕ) (p : ℕ). unsigned_abs (at image p).raw ≤ most in
-    let more = λ (most : ℕ) (up : c.loop-listed.most ≤ most) (here : unsigned_abs (at image row).raw ≤ most).
-    All-more (Q most) rows k 0 h (All-weaker (Q c.loop-listed.most) (Q most) (λ p b. omega (arith, b, up)) (take k rows) v.seen) here in
+    let P = λ (o : Option ℕ) (most : ℕ). MatchOption o (most ≡ 2 ^ 20 - 1) (IsPivotRow image) in
     elim c.if-most-size.branch [
       | then-most-size w ↦
           record {
             pivot = subst (λ (o : Option ℕ). P o c.if-most-size.most) (sym w.largest-is)
-                (record { row_in = c.requires.rows k 0 h; listed = listed-at rows k h; pivot = omega (arith, v.least, w.if-most-size.true, size) });
+                (record { row_in = c.requires.rows k 0 h; pivot = omega (arith, v.least, w.if-most-size.true, size) });
             least = omega (arith, v.least, w.if-most-size.true, w.most-is);
-            seen = more c.if-most-size.most (omega (arith, w.if-most-size.true, w.most-is)) (omega (arith, size, w.most-is));
           }
       | else-most-size w ↦
           record {
             pivot = subst (λ (o : Option ℕ). P o c.if-most-size.most) (sym w.largest-is) (subst (λ (m : ℕ). P c.loop-listed.largest m) (sym w.most-is) v.pivot);
             least = omega (arith, v.least, w.most-is);
-            seen = more c.if-most-size.most (omega (arith, w.most-is)) (omega (arith, size, w.most-is, w.if-most-size.false));
           }
     ]

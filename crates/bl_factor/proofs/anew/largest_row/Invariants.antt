@@ -7,7 +7,6 @@ use Rattle.bl_factor.proofs.anew.largest_row.Given as goal
 
 abbrev pub invariant-loop-listed : goal.invariant-loop-listed
 invariant-loop-listed l = record {
-  pivot : MatchOption l.largest (l.most ≡ 2 ^ 20 - 1) (IsPivotRow l.image l.rows);
+  pivot : MatchOption l.largest (l.most ≡ 2 ^ 20 - 1) (IsPivotRow l.image);
   least : 2 ^ 20 - 1 ≤ l.most;
-  seen : All (λ p. unsigned_abs (at l.image p).raw ≤ l.most) (take l.listed-index l.rows);
 }

@@ -1,7 +1,7 @@
 use Rattle.std.proofs.Common.{◌≡◌, true, ap, ◌∙◌, subst}
 use Rattle.bl_problem.specs.Program.{Program}
 use Rattle.bl_tree.specs.Answers.{verdict_of}
-use Rattle.bl_run.specs.Searches.{IsEndedHistory, settings_of}
+use Rattle.bl_search.specs.Searches.{IsEndedHistory, settings_of}
 use Rattle.bl_report.specs.Texts.{verdict_text}
 use Rattle.bl_run.proofs.Answered.{solved}
 use Rattle.bl_run.proofs.run.solve.Goals as goal

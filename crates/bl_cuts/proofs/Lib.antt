@@ -1,0 +1,11 @@
+pub mod WeightedSums
+pub mod RoundingLaw
+pub mod TermLemmas
+pub mod Law
+pub mod Same
+pub mod OneHot
+pub mod OneRow
+pub mod Separating
+pub mod Splitting
+pub mod FirstCandidate
+pub mod Reaching

@@ -1,0 +1,24 @@
+use Rattle.std.proofs.Common.{ℤ, pos, List, get_or, Option, Some, sym, ◌∙◌, ap, FitsSigned, rules, slice_set}
+use Rattle.std.specs.Int.{w64, w128}
+use Rattle.std.proofs.lemmas.Int.{to_z-of_z}
+use Rattle.std.proofs.lemmas.List.Sums.{fold_more}
+use Rattle.bl_num.specs.Checked.{checked_add}
+use Rattle.bl_problem.specs.declared.problem.Term.{Term}
+use Rattle.bl_bound.specs.Bounds.{sum_at}
+use Rattle.bl_cuts.specs.Steps.{given_term}
+use Rattle.bl_cuts.proofs.columns.add_terms.Goals as goal
+
+pub loop-term-preserved : goal.loop-term-preserved
+loop-term-preserved c =
+    let d : Term = record { column = 0; coefficient = pos 0 } in
+    let t : Term = get_or c.args.terms.now c.loop-term.term-index d in
+    let f : FitsSigned w64 t.coefficient = search rules in
+    let z = to_z-of_z w64 c.args.w c.ranges.w in
+    let inv = rw z at c.loop-term.invariant in
+    let g = c.ranges.w in
+    let p = simp to_z-of_z at c.product.ensures.value in
+    let h : FitsSigned w128 c.product.result = record { sfits = c.product.type_inv } in
+    let s = simp to_z-of_z at c.plus.ensures in
+    let m = fold_more (given_term c.args.w) c.args.sums.now c.args.terms.now c.loop-term.term-index d c.loop-term-test.true in
+    let written = s ∙ ap (λ (v : ℤ). checked_add (sum_at c.loop-term.sums t.column) (Some v)) p in
+    rw z (m ∙ ap (λ (sums : List (Option ℤ)). given_term c.args.w sums t) inv ∙ ap (λ (o : Option ℤ). slice_set c.loop-term.sums t.column o) (sym written))

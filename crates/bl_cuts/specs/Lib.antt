@@ -1,0 +1,5 @@
+pub mod Derivations
+pub mod Steps
+pub mod Answers
+pub mod Separations
+pub mod OneRow

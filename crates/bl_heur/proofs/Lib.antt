@@ -1,0 +1,5 @@
+pub mod Inside
+pub mod Feasible
+pub mod Free
+pub mod Dived
+pub mod Ending

@@ -1,0 +1,4 @@
+pub mod Rounded
+pub mod Found
+pub mod Dives
+pub mod Ratios

@@ -1,0 +1,17 @@
+pub mod Counting
+pub mod Shrinking
+pub mod Keeping
+pub mod Taking
+pub mod Differing
+pub mod Assembly
+pub mod Adding
+pub mod Finding
+pub mod Starting
+pub mod Ending
+pub mod First
+pub mod Promising
+pub mod Testing
+pub mod Naming
+pub mod Moving
+pub mod Restating
+pub mod Siding

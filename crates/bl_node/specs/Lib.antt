@@ -1,0 +1,7 @@
+pub mod Boxes
+pub mod Standing
+pub mod Names
+pub mod Moves
+pub mod Sides
+pub mod Outcomes
+pub mod Promise

@@ -1,0 +1,36 @@
+-- The names of new cuts.
+use Rattle.std.specs.Prelude.{◌≡◌, ℕ, ◌+◌, ◌<◌, ◌≤◌, List, [], ◌∷◌, length, All}
+use Rattle.bl_mods.specs.Mods.{fresh_in}
+use Rattle.bl_problem.specs.declared.cut.Cut.{Cut}
+use Rattle.bl_desc.specs.declared.desc.Desc.{Desc}
+use Rattle.bl_journal.specs.declared.outcome.Next.{Next}
+use Rattle.bl_journal.specs.declared.outcome.Next.TheVariants.{Shut, Split}
+use Rattle.bl_node.specs.declared.limits.Limits.{Limits}
+use Rattle.bl_node.specs.declared.state.State.{State}
+
+-- the cuts of this seat have numbers below `next`
+abbrev pub AreNamedBelow : ℕ → ℕ → List Cut → Type 0
+AreNamedBelow seat next cuts = All (λ c. c.id.seat ≡ seat → c.id.serial < next) cuts
+
+-- the cuts carry the seat and are numbered on from `serial`
+abbrev pub AreNumbered : ℕ → ℕ → List Cut → Type 0
+AreNumbered seat serial [] = Unit {0}
+AreNumbered seat serial (c ∷ cuts) = (c.id ≡ record { seat = seat; serial = serial }) × AreNumbered seat (serial + 1) cuts
+
+-- the cuts that the node's description lacks are those that were made, numbered on, and no more than may be
+pub record AreNamed (f : Desc Cut) (s : State) : Type 0 where
+  pub numbered : AreNumbered s.limits.seat s.limits.serial (fresh_in (λ c. c.id) f.cuts s.work.desc.cuts)
+  pub made : length (fresh_in (λ c. c.id) f.cuts s.work.desc.cuts) ≡ s.made
+  pub few : s.made ≤ s.limits.new_cuts
+  pub parent_below : AreNamedBelow s.limits.seat s.limits.serial f.cuts
+  pub below : AreNamedBelow s.limits.seat (s.limits.serial + s.made) s.work.desc.cuts
+
+-- the cuts that an outcome adds
+abbrev pub added_in : Next → List Cut
+added_in Shut = []
+added_in (Split common column at left right) = common.cuts.added
+
+-- the added cuts are numbered on from the serial number, and no more than may be
+pub record AddsFew (limits : Limits) (next : Next) : Type 0 where
+  pub numbered : AreNumbered limits.seat limits.serial (added_in next)
+  pub few : length (added_in next) ≤ limits.new_cuts

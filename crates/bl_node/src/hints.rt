@@ -1,0 +1,85 @@
+// Multipliers of earlier nodes, which are tried before a node's own are made.
+use bl_problem::Problem;
+use bl_simplex::Prepared;
+use std::alloc::{AllocError, Global};
+
+/// So many are kept.
+const MOST_HINTS: usize = 4;
+
+// A multiplier for each row, and their common denominator.
+#[derive(Drop)]
+pub struct Multipliers {
+    pub rows: Vec<i64>,
+    pub denominator: i64,
+}
+
+/// What the work on earlier nodes of the same problem leaves to that on later ones: the multipliers
+/// of the last few proposals, and the linear program as the simplex wants it. Nothing rests on them.
+#[derive(Drop)]
+pub struct Hints {
+    recent: Vec<Multipliers>,
+    next: usize,
+    prepared: Option<Prepared>,
+}
+
+impl Hints {
+    /// No hints yet. Takes no memory.
+    pub fn new(alloc: Global) -> Hints {
+        Hints {
+            recent: Vec::new(alloc),
+            next: 0,
+            prepared: None,
+        }
+    }
+
+    // The problem's linear program, made at the first call.
+    pub fn prepared(&mut self, alloc: Global, problem: &Problem) -> Result<&Prepared, AllocError> {
+        if self.prepared.is_none() {
+            self.prepared = Some(Prepared::new(alloc, problem)?);
+        }
+        match &self.prepared {
+            Some(prepared) => Ok(prepared),
+            None => Err(AllocError),
+        }
+    }
+
+    // The hints, in no order.
+    pub fn recent(&self) -> &[Multipliers] {
+        self.recent.as_slice()
+    }
+
+    // Keeps the multipliers of the rows, in the place of the oldest where there are many.
+    pub fn keep(
+        &mut self,
+        alloc: Global,
+        rows: &[i64],
+        denominator: i64,
+    ) -> Result<(), AllocError> {
+        let mut copy = Vec::with_capacity(alloc, rows.len())?;
+        copy.extend_from_slice(rows)?;
+        let kept = Multipliers {
+            rows: copy,
+            denominator,
+        };
+        if self.recent.len() < MOST_HINTS {
+            self.recent.push(kept)?;
+            return Ok(());
+        }
+        if let Some(oldest) = self.recent.get_mut(self.next) {
+            *oldest = kept;
+        }
+        let next = self.next.saturating_add(1);
+        self.next = if next < MOST_HINTS { next } else { 0 };
+        Ok(())
+    }
+}
+
+// The multipliers of the rows, and zeros for the cuts.
+pub fn padded(alloc: Global, rows: &[i64], cuts: usize) -> Result<Vec<i64>, AllocError> {
+    let mut y = Vec::with_capacity(alloc, rows.len().saturating_add(cuts))?;
+    y.extend_from_slice(rows)?;
+    for _ in 0..cuts {
+        y.push(0)?;
+    }
+    Ok(y)
+}

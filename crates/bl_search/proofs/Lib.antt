@@ -1,0 +1,4 @@
+pub mod Putting
+pub mod Serials
+pub mod Tidying
+pub mod Turns

@@ -1,0 +1,30 @@
+use Rattle.std.proofs.Common.{List, subst, All, Bool, true, false, ◌≡◌}
+use Rattle.std.proofs.lemmas.List.{reverse-reverse}
+use Rattle.bl_journal.specs.declared.entry.Entry.{Entry}
+use Rattle.bl_journal.specs.Legality.{seat_of}
+use Rattle.bl_journal.specs.Replies.{take_reply}
+use Rattle.bl_tree.specs.Views.{past_of}
+use Rattle.bl_search.specs.Searches.{EndsBy, last_reply}
+use Rattle.bl_search.proofs.Tidying.{All-reverse}
+use Rattle.bl_search.proofs.search.end.Goals as goal
+
+pub returns-clause-ended : goal.returns-clause-ended
+returns-clause-ended c =
+    record {
+      legal = c.journal-journal.ensures.legal;
+      none_out = c.requires.between.none_out;
+      seats = subst (λ (h : List Entry). All (λ e. seat_of e ≡ 0) h) (reverse-reverse c.args.tree.history) (All-reverse (λ e. seat_of e ≡ 0) (past_of c.args.tree) c.requires.between.seats);
+      nothing_to_free = c.requires.between.nothing_to_free;
+      tidied = c.requires.between.tidied;
+      ends = by_reply c.args.limited c.requires.reply;
+    }
+  where
+    by_reply : (limited : Bool) → take_reply c.args.tree.problem c.args.tree.settings (past_of c.args.tree) ≡ last_reply limited → EndsBy limited c.args.tree.problem c.args.tree.settings (past_of c.args.tree)
+    by_reply true e = record {
+      spent = c.replies_end_searches.ensures.all_used c.args.tree.problem c.args.tree.settings c.args.tree.history c.journal-journal.ensures.legal e;
+      short = c.replies_end_searches.ensures.budget c.args.tree.problem c.args.tree.settings c.args.tree.history c.journal-journal.ensures.legal e;
+    }
+    by_reply false e = record {
+      none_live = c.replies_end_searches.ensures.none_live c.args.tree.problem c.args.tree.settings c.args.tree.history c.journal-journal.ensures.legal e;
+      final_answer = c.replies_end_searches.ensures.decided c.args.tree.problem c.args.tree.settings c.args.tree.history c.journal-journal.ensures.legal e;
+    }

@@ -1,0 +1,6 @@
+//! Search: the search of one seat.
+#![tactic(auto)]
+
+mod search;
+
+pub use search::{EndedSearch, search_tree};
