@@ -1,8 +1,8 @@
 -- What the first pass leaves: a box that meets its decisions.
-use Rattle.std.proofs.Common.{◌≡◌, ℕ, suc, ◌≤◌, ℤ, ◌≤ℤ◌, Bool, true, false, cond, List, [], ◌∷◌, length, arith, refl, sym, ◌∙◌, ap, subst, All}
+use Rattle.std.proofs.Common.{◌≡◌, suc, ◌≤◌, Bool, true, false, cond, List, [], ◌∷◌, length, arith, refl, sym, ◌∙◌, ap, subst, All}
 use Rattle.std.proofs.lemmas.Int.{ints}
 use Rattle.std.proofs.lemmas.List.Elements.{All-nil}
-use Rattle.bl_problem.specs.Decisions.{Box, narrowed_all}
+use Rattle.bl_problem.specs.Decisions.{Box}
 use Rattle.bl_problem.specs.declared.decision.Decision.{Decision}
 use Rattle.bl_prop.specs.Limits.{AreDecisions}
 use Rattle.bl_prop.specs.declared.tightening.Tightened.{Tightened}

@@ -1,7 +1,8 @@
 -- Moves come one after another, and end where the node is shut.
 use Rattle.std.proofs.Common.{◌≡◌, ℕ, ◌+◌, ◌<◌, ℤ, ◌≤ℤ◌, List, length, arith, refl, sym, ◌∙◌, ap, subst, Option, Bool, true, false}
 use Rattle.std.specs.Prelude.{IsTrue}
-use Rattle.std.proofs.lemmas.Int.{ints}
+use Rattle.std.specs.Int.{int_max}
+use Rattle.std.proofs.lemmas.Int.{ints, clamps}
 use Rattle.std.proofs.lemmas.Bool.{false≢true}
 use Rattle.bl_mods.specs.Mods.{fresh_in}
 use Rattle.bl_problem.specs.Program.{Program}
@@ -11,7 +12,7 @@ use Rattle.bl_node.specs.declared.limits.Limits.{Limits}
 use Rattle.bl_node.specs.declared.state.State.{State}
 use Rattle.bl_node.specs.declared.working.Working.{Working}
 use Rattle.bl_node.specs.Boxes.{Shrinks}
-use Rattle.bl_node.specs.Names.{AreNamed, AreNamedBelow, AreNumbered}
+use Rattle.bl_node.specs.Names.{AreNamed, AreNamedBelow}
 use Rattle.bl_node.specs.Standing.{box_of, OfAllInQuestion, Stands, Narrows}
 use Rattle.bl_node.specs.Moves.{IsOpen, IsKnown, Moves}
 use Rattle.bl_node.proofs.Shrinking.{shrinks_then}
@@ -94,3 +95,7 @@ named-first f w limits e none b = record {
   parent_below = b;
   below = rw e (λ i d l s. let k = b i d l s in omega (arith, k));
 }
+
+-- the greater of two numbers is at least the first
+pub risen : (a b c : ℤ) → c ≡ int_max a b → a ≤ℤ c
+risen a b c e = omega (arith, ints, clamps, e)

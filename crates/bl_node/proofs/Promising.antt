@@ -1,15 +1,13 @@
 -- What the parts of the work promise together.
-use Rattle.std.proofs.Common.{◌≡◌, ℕ, ℤ, pos, ◌≤ℤ◌, List, length, arith, refl, sym, ◌∙◌, ap, subst, All, Option, Some, None, Bool, true, false, inl, inr, ◌⊎◌}
+use Rattle.std.proofs.Common.{◌≡◌, ℤ, pos, ◌≤ℤ◌, List, arith, refl, sym, ◌∙◌, ap, subst, All, Option, Some, None, true, inl, inr, ◌⊎◌}
 use Rattle.std.specs.Prelude.{Ok, Err, IfOk, IfSome}
 use Rattle.bl_bound.specs.Bounds.{bound_of}
 use Rattle.std.specs.declared.result.Result.{Result}
 use Rattle.std.specs.Int.{int_min}
 use Rattle.std.proofs.lemmas.Int.{ints, clamps}
 use Rattle.bl_problem.specs.Program.{Program}
-use Rattle.bl_problem.specs.Decisions.{Box}
 use Rattle.bl_problem.specs.Points.{value_of}
 use Rattle.bl_problem.specs.declared.cut.Cut.{Cut}
-use Rattle.bl_problem.specs.declared.decision.Decision.{Decision}
 use Rattle.bl_desc.specs.declared.desc.Desc.{Desc}
 use Rattle.bl_desc.specs.declared.desc.Form.{Form}
 use Rattle.bl_fixed.specs.declared.Fixed.{Fixed}
@@ -23,12 +21,12 @@ use Rattle.bl_node.specs.declared.working.Working.{Working}
 use Rattle.bl_node.specs.declared.working.Pass.{Pass}
 use Rattle.bl_node.specs.declared.working.Pass.TheVariants.{Shut, Changed, Same}
 use Rattle.bl_node.specs.Boxes.{Shrinks, BoxMeets, decisions_in}
-use Rattle.bl_node.specs.Standing.{box_of, OfAllInQuestion, Stands, Narrows, Knows, Leaves, IsAboveUnits, is_reached}
+use Rattle.bl_node.specs.Standing.{box_of, Stands, Narrows, Knows, Leaves, IsAboveUnits, is_reached}
 use Rattle.bl_mods.specs.Mods.{fresh_in}
 use Rattle.bl_node.specs.declared.limits.Limits.{Limits}
 use Rattle.bl_node.specs.declared.state.State.{State}
 use Rattle.bl_node.specs.Names.{AreNamed, AddsFew}
-use Rattle.bl_node.specs.Outcomes.{IsSplitAt, IsSplitOf}
+use Rattle.bl_node.specs.Outcomes.{IsSplitAt}
 use Rattle.bl_node.specs.Promise.{SplitsAsPromised, IsCutOff}
 use Rattle.bl_node.proofs.Shrinking.{met_later}
 

@@ -4,19 +4,15 @@ use Rattle.std.proofs.lemmas.List.{take_more, take_all, length-take-le}
 use Rattle.bl_mods.specs.Mods.{differences}
 use Rattle.bl_mods.proofs.Diffing.{unlike, length_differences}
 use Rattle.bl_problem.specs.Program.{Program}
-use Rattle.bl_problem.specs.Decisions.{Box}
-use Rattle.bl_problem.specs.Points.{InBox}
 use Rattle.bl_problem.specs.declared.cut.Cut.{Cut}
 use Rattle.bl_desc.specs.declared.desc.Desc.{Desc}
 use Rattle.bl_desc.specs.declared.desc.Status.{Status}
-use Rattle.bl_desc.specs.Changes.{same_status, cut_status_after, IsWhole}
+use Rattle.bl_desc.specs.Changes.{same_status, cut_status_after}
 use Rattle.bl_journal.specs.Soundness.{IsInQuestion}
-use Rattle.bl_node.specs.declared.state.State.{State}
 use Rattle.bl_node.specs.declared.working.Working.{Working}
 use Rattle.bl_node.specs.Boxes.{Shrinks}
 use Rattle.bl_node.specs.Outcomes.{common_of, HasFewStatuses}
-use Rattle.bl_node.specs.Standing.{box_of, OfAllInQuestion, Stands, Narrows, IsRestated}
-use Rattle.bl_node.specs.Moves.{IsOpen, Moves}
+use Rattle.bl_node.specs.Standing.{box_of, Stands, Narrows, IsRestated}
 use Rattle.bl_node.proofs.First.{shrinks-same, unlike-most, no-status}
 
 pub stands-restated : (p : Program) (f : Desc Cut) (cutoff : Option ℤ) (old new : Working) → IsRestated old new → Stands p f cutoff old → Stands p f cutoff new

@@ -1,14 +1,10 @@
 -- A side without points in question decides the opposite.
-use Rattle.std.proofs.Common.{◌≡◌, ◌≢◌, ℕ, ◌+◌, ◌<◌, ◌≤◌, ℤ, pos, ◌+ℤ◌, ◌-ℤ◌, ◌≤ℤ◌, ◌<ℤ◌, List, [], ◌∷◌, length, arith, refl, sym, ◌∙◌, ap, subst, Option, Some, None, Bool, true, false, All}
-use Rattle.std.specs.Prelude.{IsTrue, IfSome, slice_get, int_le, ◌^◌, ◌-◌}
+use Rattle.std.proofs.Common.{◌≡◌, ℕ, ℤ, pos, ◌+ℤ◌, ◌-ℤ◌, ◌≤ℤ◌, ◌<ℤ◌, List, [], ◌∷◌, arith, refl, sym, ◌∙◌, ap, subst, Option, Some, None, Bool, true, false}
+use Rattle.std.specs.Prelude.{IfSome, slice_get, int_le, ◌^◌, ◌-◌}
 use Rattle.bl_problem.specs.Sums.{IsWithin}
 use Rattle.bl_prop.specs.Limits.{IsDecision, AreDecisions}
 use Rattle.std.proofs.lemmas.List.Elements.{All-nil, All-cons}
-use Rattle.std.specs.Ordering.{int_eq}
 use Rattle.std.proofs.lemmas.Int.{ints}
-use Rattle.std.proofs.lemmas.Bool.{false≢true}
-use Rattle.bl_num.specs.Exact.{at}
-use Rattle.bl_mods.specs.Mods.{differences}
 use Rattle.bl_problem.specs.Program.{Program}
 use Rattle.bl_problem.specs.Points.{InBox}
 use Rattle.bl_problem.specs.Decisions.{Box, Meets, MeetsSide, narrowed_all}
@@ -19,11 +15,11 @@ use Rattle.bl_problem.specs.declared.decision.Side.TheVariants.{AtLeast, AtMost}
 use Rattle.bl_problem.proofs.Boxes.{box-width, box-entry, box-from}
 use Rattle.bl_problem.proofs.Narrowed.{InBox-narrowed, InBox-widened}
 use Rattle.bl_desc.specs.declared.desc.Desc.{Desc}
-use Rattle.bl_journal.specs.Soundness.{IsInQuestion, cutoff_with}
+use Rattle.bl_journal.specs.Soundness.{cutoff_with}
 use Rattle.bl_node.specs.declared.sides.Side.{Side}
 use Rattle.bl_node.specs.declared.state.State.{State}
 use Rattle.bl_node.specs.declared.working.Working.{Working}
-use Rattle.bl_node.specs.Moves.{IsOpen, IsKnown, Moves}
+use Rattle.bl_node.specs.Moves.{Moves}
 use Rattle.bl_node.specs.Sides.{IsSideOf, opposite_of, other_side}
 use Rattle.bl_node.specs.Standing.{box_of, OfAllInQuestion, Stands, Narrows, TakesDecisions}
 use Rattle.bl_node.proofs.Starting.{given, no_difference, part_of_itself}

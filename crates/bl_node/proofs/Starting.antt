@@ -9,7 +9,7 @@ use Rattle.bl_mods.specs.Mods.{differences, IsPartThenFresh}
 use Rattle.bl_mods.proofs.Relisting.{IsPartThenFresh-relisted}
 use Rattle.bl_mods.proofs.Diffing.{length_differences, unlike_self}
 use Rattle.bl_problem.specs.Program.{Program}
-use Rattle.bl_problem.specs.Points.{InBox, IsFeasible, value_of}
+use Rattle.bl_problem.specs.Points.{value_of}
 use Rattle.bl_problem.specs.declared.cut.Cut.{Cut}
 use Rattle.bl_desc.specs.declared.desc.Desc.{Desc}
 use Rattle.bl_desc.specs.Changes.{nothing}

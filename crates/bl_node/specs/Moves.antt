@@ -1,5 +1,5 @@
 -- The moves of the work on a node, which come one after another.
-use Rattle.std.specs.Prelude.{◌≡◌, ℤ, ◌≤ℤ◌, List, Option, IsTrue, false}
+use Rattle.std.specs.Prelude.{◌≡◌, ℤ, ◌≤ℤ◌, Option, IsTrue, false}
 use Rattle.bl_problem.specs.Program.{Program}
 use Rattle.bl_problem.specs.declared.cut.Cut.{Cut}
 use Rattle.bl_desc.specs.declared.desc.Desc.{Desc}

@@ -1,5 +1,5 @@
 -- The outcomes of the work on a node.
-use Rattle.std.specs.Prelude.{◌≡◌, ◌≢◌, ◌⊎◌, ℕ, ◌+◌, ◌≤◌, ℤ, ◌<ℤ◌, List, length, AllPairs, Option, IfSome, if◌then◌else◌}
+use Rattle.std.specs.Prelude.{◌≡◌, ◌≢◌, ◌⊎◌, ◌+◌, ◌≤◌, ℤ, ◌<ℤ◌, length, AllPairs, Option, IfSome, if◌then◌else◌}
 use Rattle.bl_mods.specs.Mods.{IsPartThenFresh}
 use Rattle.bl_problem.specs.Program.{Program}
 use Rattle.bl_problem.specs.Points.{value_of}

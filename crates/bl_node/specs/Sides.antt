@@ -1,5 +1,5 @@
 -- The points of a node's box that meet one more decision.
-use Rattle.std.specs.Prelude.{◌≡◌, ℤ, pos, ◌+ℤ◌, ◌-ℤ◌, List, [], ◌∷◌, Option, false}
+use Rattle.std.specs.Prelude.{◌≡◌, ℤ, pos, ◌+ℤ◌, ◌-ℤ◌, [], ◌∷◌, Option}
 use Rattle.bl_problem.specs.Program.{Program}
 use Rattle.bl_problem.specs.Decisions.{narrowed_all}
 use Rattle.bl_problem.specs.declared.cut.Cut.{Cut}

@@ -1,5 +1,5 @@
 -- What is known while a node is worked on, of the points of its box that beat the cutoff.
-use Rattle.std.specs.Prelude.{◌≡◌, ◌≢◌, ℕ, ◌+◌, ◌<◌, ◌≤◌, ◌^◌, ℤ, pos, ◌≤ℤ◌, ◌<ℤ◌, Bool, int_le, List, [], ◌∷◌, ◌++◌, length, All, AllPairs, Option, Some, None, IfSome, true, false}
+use Rattle.std.specs.Prelude.{◌≡◌, ◌≢◌, ℕ, ◌+◌, ◌<◌, ◌≤◌, ℤ, pos, ◌≤ℤ◌, ◌<ℤ◌, Bool, int_le, List, [], ◌∷◌, ◌++◌, length, All, AllPairs, Option, Some, None, IfSome, false}
 use Rattle.std.specs.Ordering.{int_eq}
 use Rattle.bl_num.specs.Exact.{at}
 use Rattle.bl_mods.specs.declared.mods.ItemId.{ItemId}

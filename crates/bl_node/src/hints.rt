@@ -4,7 +4,7 @@ use bl_simplex::Prepared;
 use std::alloc::{AllocError, Global};
 
 /// So many are kept.
-const MOST_HINTS: usize = 4;
+const MOST_HINTS: usize = 2;
 
 // A multiplier for each row, and their common denominator.
 #[derive(Drop)]

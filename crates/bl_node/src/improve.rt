@@ -90,7 +90,7 @@ fn keep(problem: &Problem, parent: &Desc<Cut>, state: &mut State, proposal: Prop
     }
 }
 
-// The hints raise the low and fix columns, where there is a cutoff.
+// The hints shut the node or fix columns, where there is a cutoff.
 fn use_hints(
     alloc: Global,
     problem: &Problem,
@@ -106,7 +106,6 @@ fn use_hints(
     }
     for hint in hints.recent() {
         let y = padded(alloc, hint.rows.as_slice(), state.work.desc.cuts.len())?;
-        bound_by(problem, parent, state, y.as_slice(), hint.denominator);
         fix_by(
             alloc,
             problem,
@@ -397,9 +396,9 @@ fn try_cuts<S: Separate>(
     Ok(guess)
 }
 
-// Whether cuts are wanted: at the root, and below where the node has some.
-fn wants_cuts(parent: &Desc<Cut>, limits: &Limits) -> bool {
-    0 < limits.new_cuts && (limits.serial == 0 || !parent.cuts.is_empty())
+// Whether cuts are wanted: at the first node alone, since below they cost more than they bring.
+fn wants_cuts(limits: &Limits) -> bool {
+    0 < limits.new_cuts && limits.serial == 0
 }
 
 // Rounds, and then rounds with cuts where they are wanted.
@@ -422,7 +421,7 @@ pub fn improve<S: Separate>(
     let Some(guess) = settle_bounds(alloc, problem, parent, state, hints)? else {
         return Ok(None);
     };
-    if !wants_cuts(parent, &state.limits) {
+    if !wants_cuts(&state.limits) {
         return Ok(Some(guess));
     }
     let guess = try_cuts(alloc, problem, parent, separator, state, hints, guess)?;

@@ -1,7 +1,8 @@
 // The state of the work on a node, and the moves that it makes.
-ghost use Rattle.std.specs.Prelude.{◌≡◌, ◌+◌, ◌<ℤ◌, length, IsSomeAnd, IfOk, OnOk, true, false};
-ghost use Rattle.bl_problem.specs.Points.{InBox};
+ghost use Rattle.std.specs.Prelude.{◌≡◌, ◌+◌, ◌≤ℤ◌, ◌<ℤ◌, List, length, IfSome, IsSomeAnd, IfOk, OnOk, true, false};
+ghost use Rattle.bl_problem.specs.Points.{InBox, value_of};
 ghost use Rattle.bl_problem.specs.Decisions.{MeetsAll};
+ghost use Rattle.bl_bound.specs.Descriptions.{IsLeft};
 ghost use Rattle.bl_bound.specs.Reduced.{bound_by};
 ghost use Rattle.bl_prop.specs.Limits.{AreDecisions};
 ghost use Rattle.bl_node.specs.Standing.{IsNode, OfAllInQuestion, Stands};
@@ -107,7 +108,20 @@ pub fn narrow(problem: &Problem, parent: &Desc<Cut>, state: &mut State, decision
     }
 }
 
-// The reduced costs of multipliers over a common denominator fix columns, where there is a cutoff.
+// The bound that comes with reduced costs raises the low.
+fn raise_by(problem: &Problem, parent: &Desc<Cut>, state: &mut State, reduced: &ReducedCosts)
+    requires within { IsOpen problem.now parent.now state.old }
+    requires open { state.old.is_shut ≡ false }
+    requires below { IfSome (bound_by reduced.now) (λ b. (x : List _) → IsLeft problem.now state.old.work.desc x → b ≤ℤ value_of problem.now x) }
+    ensures { Moves problem.now parent.now state.old state.new }
+{
+    if let Some(bound) = reduced.bound() {
+        raise(&mut state.work, bound);
+        close(problem, parent, state);
+    }
+}
+
+// The reduced costs of multipliers over a common denominator fix columns, or their bound shuts the node, where there is a cutoff.
 pub fn fix_by(
     alloc: Global,
     problem: &Problem,
@@ -127,6 +141,7 @@ pub fn fix_by(
     };
     let reduced = ReducedCosts::new(problem, &state.work.desc, y, d);
     if !is_below(&reduced, cutoff) {
+        raise_by(problem, parent, state, &reduced);
         return Ok(());
     }
     if let Some(decisions) = fix_reduced(alloc, problem, &state.work.desc, &reduced, cutoff)? {

@@ -95,7 +95,13 @@ fn is_settled(journal: &Journal, place: usize, node: u32) -> bool {
     for later in place..journal.len() {
         match journal.get(later) {
             Some(Entry::Take { .. }) => return false,
-            Some(Entry::Encode { id, form: Form::Explicit, .. }) => {
+            Some(
+                Entry::Encode {
+                    id,
+                    form: Form::Explicit,
+                    ..
+                },
+            ) => {
                 if *id == node {
                     return true;
                 }
@@ -116,7 +122,13 @@ fn unsettled(journal: &Journal) -> (u32, u32) {
     let mut splits: u32 = 0;
     let mut late: u32 = 0;
     for place in 0..journal.len() {
-        if let Some(Entry::Put { next: Step::Split { .. }, .. }) = journal.get(place) {
+        if let Some(
+            Entry::Put {
+                next: Step::Split { .. },
+                ..
+            },
+        ) = journal.get(place)
+        {
             splits = splits.saturating_add(1);
             let right = splits.saturating_mul(2);
             let is_due = splits % 4 == 0;

@@ -249,7 +249,9 @@ pub fn search_tree<F: Fn(&Desc<Cut>, &[Fixed]) -> Place, S: Separate>(
     let mut hints = Hints::new(alloc);
     for turn in 0..nodes + 1 {
         let serial = MOST_NEW_CUTS * turn;
-        match take_turn(alloc, problem, &mut tree, rule, separator, &mut hints, splits, serial)? {
+        match take_turn(
+            alloc, problem, &mut tree, rule, separator, &mut hints, splits, serial,
+        )? {
             Turn::Worked { splits: count } => splits = count,
             Turn::Done => return Ok(end(tree, false)),
             Turn::Spent => return Ok(end(tree, true)),

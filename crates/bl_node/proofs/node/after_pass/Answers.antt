@@ -1,4 +1,4 @@
-use Rattle.std.proofs.Common.{◌≡◌, ℤ, ◌≤ℤ◌, rules, sym, subst, false}
+use Rattle.std.proofs.Common.{rules}
 use Rattle.bl_node.specs.Outcomes.{form_of}
 use Rattle.bl_node.specs.Standing.{box_of}
 use Rattle.bl_node.proofs.Assembly.{sound-shut}

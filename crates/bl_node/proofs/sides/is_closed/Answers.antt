@@ -1,4 +1,3 @@
-use Rattle.std.proofs.Common.{◌≡◌, true}
 use Rattle.bl_node.specs.Sides.{IsSideOf}
 use Rattle.bl_node.specs.declared.sides.Side.{Side}
 use Rattle.bl_node.proofs.Moving.{moves-then}

@@ -1,13 +1,12 @@
-use Rattle.std.proofs.Common.{◌≡◌, ℕ, ◌+◌, ◌<◌, ◌≤◌, ℤ, ◌≤ℤ◌, List, [], ◌∷◌, length, arith, rules, refl, sym, ◌∙◌, ap, subst, All}
+use Rattle.std.proofs.Common.{[], ◌∷◌, length, arith, rules, sym, subst}
 use Rattle.std.specs.Int.{w128}
 use Rattle.std.proofs.lemmas.Int.{to_z-of_z}
 use Rattle.std.proofs.lemmas.Bool.{false≢true}
 use Rattle.std.proofs.Common.{FitsSigned}
-use Rattle.bl_num.specs.Exact.{at}
-use Rattle.bl_problem.specs.Decisions.{Box, narrowed_all}
+use Rattle.bl_problem.specs.Decisions.{Box}
 use Rattle.bl_problem.specs.Points.{InBox}
 use Rattle.bl_problem.proofs.Narrowed.{InBox-narrowed}
-use Rattle.bl_prop.specs.Limits.{AreDecisions, IsDecision}
+use Rattle.bl_prop.specs.Limits.{AreDecisions}
 use Rattle.bl_node.specs.declared.working.Working.{Working}
 use Rattle.bl_node.specs.Standing.{box_of, TakesDecisions}
 use Rattle.bl_node.proofs.Keeping.{narrows-narrowed}

@@ -1,17 +1,14 @@
-use Rattle.std.proofs.Common.{◌≡◌, ℤ, ◌≤ℤ◌, arith, rules, sym, ap, subst, refl, FitsSigned}
-use Rattle.std.specs.Int.{int_max, w128}
-use Rattle.std.proofs.lemmas.Int.{ints, clamps, to_z-of_z}
+use Rattle.std.proofs.Common.{rules, sym, ap, subst, FitsSigned}
+use Rattle.std.specs.Int.{w128}
+use Rattle.std.proofs.lemmas.Int.{to_z-of_z}
 use Rattle.bl_problem.specs.declared.cut.Cut.{Cut}
 use Rattle.bl_desc.specs.declared.desc.Desc.{Desc}
 use Rattle.bl_node.specs.Boxes.{Shrinks}
 use Rattle.bl_node.specs.Standing.{box_of}
 use Rattle.bl_node.proofs.First.{shrinks-same}
 use Rattle.bl_node.proofs.Keeping.{left}
-use Rattle.bl_node.proofs.Moving.{state_with, moves-on, moves-then}
+use Rattle.bl_node.proofs.Moving.{state_with, moves-on, moves-then, risen}
 use Rattle.bl_node.proofs.state.bound_by.Goals as goal
-
-risen : (a b c : ℤ) → c ≡ int_max a b → a ≤ℤ c
-risen a b c e = omega (arith, ints, clamps, e)
 
 pub returns-in-Some : goal.returns-in-Some
 returns-in-Some c =

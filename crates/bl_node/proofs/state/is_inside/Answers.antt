@@ -1,4 +1,4 @@
-use Rattle.std.proofs.Common.{arith, sym}
+use Rattle.std.proofs.Common.{arith}
 use Rattle.bl_problem.proofs.Boxes.{box-from}
 use Rattle.bl_node.proofs.state.is_inside.Goals as goal
 

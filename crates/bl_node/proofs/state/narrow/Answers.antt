@@ -1,4 +1,4 @@
-use Rattle.std.proofs.Common.{◌≡◌, ℤ, ◌≤ℤ◌, arith}
+use Rattle.std.proofs.Common.{arith}
 use Rattle.std.proofs.lemmas.Int.{ints}
 use Rattle.bl_node.proofs.Moving.{moves-on}
 use Rattle.bl_node.proofs.Promising.{stands-open, narrows-open}

@@ -1,4 +1,4 @@
-use Rattle.std.proofs.Common.{◌≡◌, ℤ, ◌≤ℤ◌, arith, rules, sym, ap, ◌∙◌, subst, refl, length, List}
+use Rattle.std.proofs.Common.{arith, rules, sym, ap, ◌∙◌, subst}
 use Rattle.std.proofs.lemmas.Int.{ints}
 use Rattle.std.proofs.lemmas.List.{length-map}
 use Rattle.bl_problem.specs.Points.{IsFeasible, InBox, lows_of, highs_of}

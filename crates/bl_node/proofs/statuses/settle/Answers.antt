@@ -1,4 +1,4 @@
-use Rattle.std.proofs.Common.{arith, ◌≤◌, ◌∙◌, length}
+use Rattle.std.proofs.Common.{arith}
 use Rattle.bl_node.proofs.Restating.{few-counted, few-taken}
 use Rattle.bl_node.proofs.statuses.settle.Goals as goal
 

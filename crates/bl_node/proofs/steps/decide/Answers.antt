@@ -1,9 +1,5 @@
-use Rattle.std.proofs.Common.{◌≡◌, ℕ, ◌+◌, ◌≤◌, ℤ, List, length, arith, rules, refl, sym, ◌∙◌, ap}
-use Rattle.bl_num.specs.Exact.{at}
-use Rattle.bl_problem.specs.Decisions.{MeetsAll}
-use Rattle.bl_problem.specs.declared.decision.Decision.{Decision}
+use Rattle.std.proofs.Common.{◌+◌, ◌≤◌, ℤ, List, length, arith, rules, refl, ap}
 use Rattle.bl_prop.specs.declared.tightening.Tightened.TheVariants.{Changed}
-use Rattle.bl_node.specs.declared.working.Working.{Working}
 use Rattle.bl_node.specs.Standing.{box_of}
 use Rattle.bl_node.proofs.Keeping.{stands-narrowed, narrows-narrowed}
 use Rattle.bl_node.proofs.First.{shrinks-same, shrinks-taken, met-taken, statuses-same, statuses-taken}

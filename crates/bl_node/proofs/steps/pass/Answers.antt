@@ -1,7 +1,6 @@
-use Rattle.std.proofs.Common.{◌≡◌, ℕ, ◌+◌, ◌≤◌, List, length, arith, refl, sym, ◌∙◌, ap, subst, All}
+use Rattle.std.proofs.Common.{◌≡◌, List, length, arith, refl, sym, ◌∙◌, ap, subst, All}
 use Rattle.bl_problem.specs.Decisions.{MeetsAll}
 use Rattle.bl_problem.specs.declared.decision.Decision.{Decision}
-use Rattle.bl_prop.specs.Limits.{AreDecisions}
 use Rattle.bl_prop.specs.Answers.{tightened_of}
 use Rattle.bl_prop.specs.declared.tightening.Tightened.TheVariants.{Empty, Changed, Same}
 use Rattle.bl_node.specs.Boxes.{BoxMeets, decisions_in}
