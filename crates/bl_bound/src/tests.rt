@@ -5,7 +5,7 @@ ghost use Rattle.std.specs.Prelude.{◌≡◌, [], ◌∷◌, Some, None, pos, l
 use crate::{bound, empty, greatest_unit_bound};
 use bl_desc::Desc;
 use bl_mods::{ItemId, Items, Shared};
-use bl_problem::{Column, Cut, Name, Problem, Row, Term};
+use bl_problem::{Column, Cut, Name, Problem, Row, Sense, Term};
 use std::alloc::{AllocError, Global};
 use std::test::Fail;
 
@@ -63,7 +63,7 @@ fn problem(alloc: Global) -> Result<Problem, AllocError>
     let columns = columns(alloc)?;
     let rows = rows(alloc)?;
     let objective = Name::new(vec![in alloc; b'C']?);
-    Ok(Problem::new(columns, rows, objective, 0, 0))
+    Ok(Problem::new(columns, rows, objective, 0, 0, Sense::Min))
 }
 
 fn description(alloc: Global, high: i64) -> Result<Desc<Cut>, AllocError>

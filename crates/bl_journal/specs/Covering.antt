@@ -3,6 +3,7 @@ use Rattle.std.specs.Prelude.{ℕ, ℤ, pos, Bool, true, false, List, [], ◌∷
 use Rattle.bl_problem.specs.Program.{Program}
 use Rattle.bl_problem.specs.declared.problem.Column.{Column}
 use Rattle.bl_problem.specs.declared.problem.Row.{Row}
+use Rattle.bl_problem.specs.declared.problem.Sense.TheVariants.{Min}
 use Rattle.bl_problem.specs.declared.cut.Cut.{Cut}
 use Rattle.bl_desc.specs.declared.change.Change.{Change}
 use Rattle.bl_desc.specs.declared.desc.Piece.TheVariants.{Relative}
@@ -27,7 +28,7 @@ row =
 
 -- 2X + 3Y at least 7, at the cost 2X + 3Y
 abbrev pub covering : Program
-covering = record { columns = column 88 2 ∷ column 89 3 ∷ []; rows = row ∷ []; objective = 67 ∷ []; scale = 0; offset = pos 0 }
+covering = record { columns = column 88 2 ∷ column 89 3 ∷ []; rows = row ∷ []; objective = 67 ∷ []; scale = 0; offset = pos 0; sense = Min }
 
 -- at most 100 nodes, best first
 abbrev pub with_span : ℕ → Settings

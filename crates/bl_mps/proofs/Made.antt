@@ -11,6 +11,7 @@ use Rattle.bl_problem.specs.declared.problem.Row.{Row}
 use Rattle.bl_cards.specs.declared.fault.LineFault.{LineFault}
 use Rattle.bl_cards.specs.declared.fault.LineFault.TheVariants.{Memory, Broken}
 use Rattle.bl_cards.specs.declared.kind.What.TheVariants as what
+use Rattle.bl_problem.specs.declared.problem.Sense.TheVariants.{Min}
 use Rattle.bl_mps.specs.declared.ends.Ends.{Ends}
 use Rattle.bl_mps.specs.declared.finish.ScaledObjective.{ScaledObjective}
 use Rattle.bl_cards.specs.Said.{RowLine, Said}
@@ -133,5 +134,5 @@ whole_more ends whole j e w l m t = rw (drop_more ends j e l, drop_more whole j 
 -- ---- the problem
 
 pub program_made : (s : Said) (o : ScaledObjective) (columns : List Column) (rows : List Row) (costs : List Term) (offset : ℤ) → objective_of s ≡ o → rows_of s ≡ rows → costs ≡ o.costs → columns ≡ columns_from s costs 0 s.columns.names → offset ≡ o.offset
-    → program_of s ≡ record { columns = columns; rows = rows; objective = o.name; scale = o.scale; offset = offset }
+    → program_of s ≡ record { columns = columns; rows = rows; objective = o.name; scale = o.scale; offset = offset; sense = Min }
 program_made s o columns rows costs offset a b c d e = rw (d, c, e, ← b, ← a) refl

@@ -6,6 +6,7 @@ use Rattle.bl_num.specs.Decimals.{in_units}
 use Rattle.bl_problem.specs.declared.problem.Term.{Term}
 use Rattle.bl_problem.specs.declared.problem.Column.{Column}
 use Rattle.bl_problem.specs.declared.problem.Row.{Row}
+use Rattle.bl_problem.specs.declared.problem.Sense.TheVariants.{Min}
 use Rattle.bl_problem.specs.Program.{Program}
 use Rattle.bl_problem.specs.Rows.{coefficient_of}
 use Rattle.bl_cards.specs.declared.kind.What.{What}
@@ -228,6 +229,7 @@ program_of s =
       objective = (objective_of s).name;
       scale = (objective_of s).scale;
       offset = (objective_of s).offset;
+      sense = Min;
     }
 
 abbrev pub is_within : ℕ → ℤ → Bool

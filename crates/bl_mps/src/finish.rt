@@ -18,7 +18,7 @@ use crate::scale::{offset, or_zero, places_of, row_ends, terms};
 use bl_cards::{LineFault, Reader, Role, What, is_limited};
 use bl_mods::Items;
 use bl_num::Decimal;
-use bl_problem::{Column, Name, Problem, Row, Term};
+use bl_problem::{Column, Name, Problem, Row, Sense, Term};
 use std::alloc::{AllocError, Global};
 
 /// A name of its own.
@@ -279,6 +279,7 @@ fn build(
                 objective.name,
                 objective.scale,
                 objective.offset,
+                Sense::Min,
             ))
         }
         Err(fault) => Err(fault),

@@ -1,10 +1,12 @@
 -- The points of an integer program: which are feasible, and their values.
-use Rattle.std.specs.Prelude.{ℕ, suc, ◌*◌, List, [], ◌∷◌, length, ℤ, ◌+ℤ◌, ◌-ℤ◌, ◌*ℤ◌, ◌≤ℤ◌, All, map, int_lt, unsigned_abs, if◌then◌else◌}
+use Rattle.std.specs.Prelude.{ℕ, suc, ◌*◌, List, [], ◌∷◌, length, ℤ, ◌+ℤ◌, ◌-ℤ◌, ◌*ℤ◌, ◌≤ℤ◌, neg_ℤ, All, map, int_lt, unsigned_abs, if◌then◌else◌}
 use Rattle.std.specs.Int.{int_min}
 use Rattle.bl_num.specs.Exact.{at, sum_below}
 use Rattle.bl_problem.specs.Program.{Program}
 use Rattle.bl_problem.specs.Rows.{MeetsRow}
 use Rattle.bl_problem.specs.declared.problem.Column.{Column}
+use Rattle.bl_problem.specs.declared.problem.Sense.{Sense}
+use Rattle.bl_problem.specs.declared.problem.Sense.TheVariants.{Min, Max}
 
 abbrev pub lows_of : List Column → List ℤ
 lows_of columns = map (λ c. c.low) columns
@@ -32,6 +34,15 @@ pub record IsFeasible (p : Program) (x : List ℤ) : Type 0 where
 -- the offset and the sum of cost times entry: less is better
 abbrev pub value_of : Program → List ℤ → ℤ
 value_of p x = p.offset +ℤ sum_below (length p.columns) (λ j. at (costs_of p.columns) j *ℤ at x j)
+
+-- a number in the sense of the file: negated where the objective is maximised
+abbrev pub in_sense : Sense → ℤ → ℤ
+in_sense Min v = v
+in_sense Max v = neg_ℤ v
+
+-- a value or a bound as it is shown
+abbrev pub shown_of : Program → ℤ → ℤ
+shown_of p v = in_sense p.sense v
 
 -- the problem's own bounds
 abbrev pub own_lows : Program → List ℤ

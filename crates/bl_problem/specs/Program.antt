@@ -4,14 +4,16 @@ use Rattle.bl_problem.specs.Sums.{IsWithin}
 use Rattle.bl_problem.specs.Rows.{AreTerms, AreEnds}
 use Rattle.bl_problem.specs.declared.problem.Column.{Column}
 use Rattle.bl_problem.specs.declared.problem.Row.{Row}
+use Rattle.bl_problem.specs.declared.problem.Sense.{Sense}
 
--- the objective is to be minimised; costs and offset are in units of 10 to the power `-scale`
+-- the value is to be minimised; costs and offset are in units of 10 to the power `-scale`. Where the file asks for the greatest value, they are the negatives of the file's
 pub record Program : Type 0 where
   pub columns : List Column
   pub rows : List Row
   pub objective : List ℕ
   pub scale : ℕ
   pub offset : ℤ
+  pub sense : Sense
 
 -- neither a space, a tab, a carriage return nor a line feed
 pub record IsVisible (byte : ℕ) : Type 0 where

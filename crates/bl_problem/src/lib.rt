@@ -11,4 +11,4 @@ pub use cut::Cut;
 pub use decision::{Decision, Side};
 pub use name::Name;
 pub use point::row_sum;
-pub use problem::{Column, Problem, Row, Term};
+pub use problem::{Column, Problem, Row, Sense, Term};

@@ -1,5 +1,5 @@
 //! The integer program that is solved.
-ghost use Rattle.std.specs.Prelude.{◌≡◌, ◌≤◌, ◌^◌, ◌↔◌, ◌≤ℤ◌, ℤ, List, length, All, IsTrue};
+ghost use Rattle.std.specs.Prelude.{◌≡◌, ◌≢◌, ◌≤◌, ◌-◌, ◌^◌, ◌↔◌, ◌≤ℤ◌, ℤ, negsuc, List, length, All, IsTrue};
 ghost use Rattle.bl_problem.specs.Sums.{IsWithin};
 
 use crate::name::Name;
@@ -39,7 +39,14 @@ pub struct Row {
     pub high: Option<i128>,
 }
 
-/// An integer program whose value is to be minimised: at most 1,000 columns and 1,000 rows.
+/// Whether the file asked for the least or the greatest value of its objective.
+#[derive(Clone, Copy, Debug, PartialEq, Eq)]
+pub enum Sense {
+    Min,
+    Max,
+}
+
+/// An integer program whose value is to be minimised: at most 1,000 columns and 1,000 rows. Where the file's objective is to be maximised, costs and offset are the negatives of the file's, so that less is better inside, and values are shown negated.
 #[derive(Drop)]
 pub struct Problem {
     columns: Items<Column>,
@@ -47,6 +54,7 @@ pub struct Problem {
     objective: Name,
     scale: u32,
     offset: i128,
+    sense: Sense,
 }
 
 impl Model for Problem {
@@ -54,14 +62,14 @@ impl Model for Problem {
 
     ghost Value = { Program };
 
-    ghost view = { λ p. record { columns = p.columns; rows = p.rows; objective = p.objective; scale = p.scale; offset = p.offset } };
+    ghost view = { λ p. record { columns = p.columns; rows = p.rows; objective = p.objective; scale = p.scale; offset = p.offset; sense = p.sense } };
 
-    ghost invariant = { λ p. IsProgram (record { columns = p.columns; rows = p.rows; objective = p.objective; scale = p.scale; offset = p.offset }) };
+    ghost invariant = { λ p. IsProgram (record { columns = p.columns; rows = p.rows; objective = p.objective; scale = p.scale; offset = p.offset; sense = p.sense }) };
 }
 
 impl Problem {
     ghost use Rattle.bl_problem.specs.Program.{IsProgram};
-    ghost use Rattle.bl_problem.specs.Points.{InBox, IsFeasible, value_of, trivial_bound_of};
+    ghost use Rattle.bl_problem.specs.Points.{InBox, IsFeasible, value_of, shown_of, trivial_bound_of};
 
     /// The problem of these parts. Takes no memory.
     pub fn new(
@@ -70,9 +78,10 @@ impl Problem {
         objective: Name,
         scale: u32,
         offset: i128,
+        sense: Sense,
     ) -> Problem
-        requires { IsProgram (record { columns = columns.items; rows = rows.items; objective = objective; scale = scale; offset = offset }) }
-        ensures { result ≡ record { columns = columns.items; rows = rows.items; objective = objective; scale = scale; offset = offset } }
+        requires { IsProgram (record { columns = columns.items; rows = rows.items; objective = objective; scale = scale; offset = offset; sense = sense }) }
+        ensures { result ≡ record { columns = columns.items; rows = rows.items; objective = objective; scale = scale; offset = offset; sense = sense } }
     {
         Problem {
             columns: Items::from_vec(columns),
@@ -80,6 +89,7 @@ impl Problem {
             objective,
             scale,
             offset,
+            sense,
         }
     }
 
@@ -118,6 +128,24 @@ impl Problem {
         ensures { result ≡ self.now.offset }
     {
         self.offset
+    }
+
+    /// What the file asked for: the least or the greatest value.
+    pub fn sense(&self) -> Sense
+        ensures { result ≡ self.now.sense }
+    {
+        self.sense
+    }
+
+    /// A value or a bound in the file's sense, in units of 10^-scale: negated where the objective is maximised.
+    pub fn shown(&self, value: i128) -> i128
+        requires { value ≢ negsuc (2 ^ 127 - 1) }
+        ensures { result ≡ shown_of self.now value }
+    {
+        match self.sense {
+            Sense::Min => value,
+            Sense::Max => -value,
+        }
     }
 
     /// The value of a point, in units of 10^-scale: the offset and the sum of cost times entry.

@@ -8,7 +8,7 @@ ghost use Rattle.bl_problem.specs.Cuts.{SuitsProblem};
 use crate::{Decision, Side, Tightened, tighten};
 use bl_desc::Desc;
 use bl_mods::{ItemId, Items, Shared};
-use bl_problem::{Column, Cut, Name, Problem, Row, Term};
+use bl_problem::{Column, Cut, Name, Problem, Row, Sense, Term};
 use std::alloc::{AllocError, Global};
 use std::test::Fail;
 
@@ -80,7 +80,7 @@ fn problem(
     let columns = columns(alloc)?;
     let rows = rows(alloc, a, b, low, high)?;
     let objective = Name::new(vec![in alloc; b'C']?);
-    Ok(Problem::new(columns, rows, objective, 0, 0))
+    Ok(Problem::new(columns, rows, objective, 0, 0, Sense::Min))
 }
 
 // The cut X + Y <= right.

@@ -14,7 +14,7 @@ use bl_fix::{fix, fix_by};
 use bl_fixed::Fixed;
 use bl_heur::{RowMultiplier, dive, round_point, row_multipliers};
 use bl_mods::Items;
-use bl_problem::{Column, Cut, Decision, Name, Problem, Row, Side, Term};
+use bl_problem::{Column, Cut, Decision, Name, Problem, Row, Sense, Side, Term};
 use std::alloc::{AllocError, Global};
 use std::test::Fail;
 
@@ -74,7 +74,7 @@ fn problem(alloc: Global, high: Option<i128>) -> Result<Problem, AllocError>
     let columns = columns(alloc)?;
     let rows = rows(alloc, high)?;
     let objective = Name::new(vec![in alloc; b'C']?);
-    Ok(Problem::new(columns, rows, objective, 0, 0))
+    Ok(Problem::new(columns, rows, objective, 0, 0, Sense::Min))
 }
 
 fn description(alloc: Global, lows: [i64; 2], highs: [i64; 2]) -> Result<Desc<Cut>, AllocError>
@@ -331,7 +331,7 @@ fn great_problem(alloc: Global) -> Result<Problem, AllocError>
     let columns = columns(alloc)?;
     let rows = great_rows(alloc)?;
     let objective = Name::new(vec![in alloc; b'C']?);
-    Ok(Problem::new(columns, rows, objective, 0, 0))
+    Ok(Problem::new(columns, rows, objective, 0, 0, Sense::Min))
 }
 
 #[test]

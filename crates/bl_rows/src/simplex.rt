@@ -7,7 +7,7 @@ use bl_desc::{Desc, Status};
 use bl_fixed::from_int;
 use bl_mods::Items;
 use bl_mps::read;
-use bl_problem::{Column, Cut, Name, Problem, Row, Side, Term};
+use bl_problem::{Column, Cut, Name, Problem, Row, Sense, Side, Term};
 use bl_simplex::{Prepared, Proposal, propose, propose_below};
 use std::alloc::{AllocError, Global};
 use std::process::Abort;
@@ -67,7 +67,7 @@ fn problem(alloc: Global) -> Result<Problem, AllocError>
     let columns = columns(alloc)?;
     let rows = rows(alloc)?;
     let objective = Name::new(vec![in alloc; b'C']?);
-    Ok(Problem::new(columns, rows, objective, 0, 0))
+    Ok(Problem::new(columns, rows, objective, 0, 0, Sense::Min))
 }
 
 fn description(alloc: Global, high: i64) -> Result<Desc<Cut>, AllocError>

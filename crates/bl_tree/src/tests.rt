@@ -8,7 +8,7 @@ use crate::{Answer, Born, Freed, Lease, Recoded, Taken, Tree};
 use bl_desc::{Change, Form, Piece};
 use bl_journal::{Next, Order, Outcome, Settings};
 use bl_mods::{Items, Mod, Shared};
-use bl_problem::{Column, Name, Problem, Row, Term};
+use bl_problem::{Column, Name, Problem, Row, Sense, Term};
 use std::alloc::{AllocError, Global};
 use std::sync::Arc;
 use std::test::Fail;
@@ -68,7 +68,7 @@ fn problem(alloc: Global, low: i64) -> Result<Problem, AllocError>
     let columns = columns(alloc, low)?;
     let rows = rows(alloc)?;
     let objective = Name::new(vec![in alloc; b'C']?);
-    Ok(Problem::new(columns, rows, objective, 0, 0))
+    Ok(Problem::new(columns, rows, objective, 0, 0, Sense::Min))
 }
 
 // The tree of the problem with this low of X; where that is 11, its box has no point.
