@@ -22,7 +22,7 @@ use Rattle.bl_journal.specs.Soundness.{decisions_of}
 use Rattle.bl_journal.specs.declared.settings.Settings.{Settings}
 use Rattle.bl_journal.specs.Births.{Node, Branch, nodes_of, node_at, root_node, left_branch, right_branch}
 use Rattle.bl_journal.specs.Descriptions.{full_of, full_along, box_along, decisions_along}
-use Rattle.bl_journal.specs.States.{State, waiting, out, split, shut, freed, state_of, put_state, is_open, is_live, is_live_in, is_below, best_of, has_point, used_of}
+use Rattle.bl_journal.specs.States.{State, waiting, out, split, shut, freed, state_of, put_state, is_open, is_live, is_live_in, is_below, cutoff_for, best_of, has_point, used_of}
 use Rattle.bl_journal.specs.Replies.{is_out}
 use Rattle.bl_journal.specs.Results.{node_points, share_in, room_of}
 use Rattle.bl_journal.specs.Legality.{IsLegalPast, MayPut}
@@ -51,16 +51,16 @@ length-box_along p branches =
     (n.0 ∙ length-map p.columns (λ c. c.low), n.1 ∙ length-map p.columns (λ c. c.high))
 
 -- the points of the two children of a sound split are halves of a box with no more points than the node
-pub record SplitPoints (p : Program) (past : List Entry) (id left right : ℕ) : Type 0 where
+pub record SplitPoints (p : Program) (s : Settings) (past : List Entry) (id left right : ℕ) : Type 0 where
   pub whole : ℕ
   pub halves : AreHalves left right whole
   pub fewer : whole ≤ node_points p past id
 
-pub split_points : (p : Program) (past : List Entry) (seat id : ℕ) (found : Option (List ℤ)) (low : ℤ) (common : Change Cut) (column : ℕ) (at : ℤ)
-    → MayPut p past seat id found low (Split common column at)
-    → SplitPoints p past id (node_points p (Put seat id found low (Split common column at) ∷ past) (length (nodes_of p past)))
+pub split_points : (p : Program) (s : Settings) (past : List Entry) (seat id : ℕ) (found : Option (List ℤ)) (low : ℤ) (common : Change Cut) (column : ℕ) (at : ℤ)
+    → MayPut p s past seat id found low (Split common column at)
+    → SplitPoints p s past id (node_points p (Put seat id found low (Split common column at) ∷ past) (length (nodes_of p past)))
     (node_points p (Put seat id found low (Split common column at) ∷ past) (length (nodes_of p past) + 1))
-split_points p past seat id found low common column at may =
+split_points p s past seat id found low common column at may =
     record {
       whole = points_in c.lows c.highs;
       halves = subst (λ (n : ℕ). AreHalves n (node_points p new (length (nodes_of p past) + 1)) (points_in c.lows c.highs)) (sym left_is)
@@ -124,8 +124,8 @@ split_points p past seat id found low common column at may =
         ∙ ap (λ (d : Desc Cut). points_in d.lows d.highs) (full_along-push p (node_at p past id).path (right_branch common column at) may.sound.next_ok.common_fits low_below)
 
 -- a node's part in the room
-abbrev pub share : Program → List Entry → ℕ → ℕ
-share p past id = share_in (state_of past id) (is_open p past id) (node_points p past id)
+abbrev pub share : Program → Settings → List Entry → ℕ → ℕ
+share p s past id = share_in (state_of past id) (is_open p s past id) (node_points p past id)
 
 abbrev pub out_one : List Entry → ℕ → ℕ
 out_one past id = one_if (is_out (state_of past id))
@@ -155,22 +155,22 @@ put_state-no_share Shut b n = refl
 put_state-no_share (Split common column at) b n = refl
 
 -- a put leaves less room to the other nodes that were born
-share-put : (p : Program) (past : List Entry) (seat i : ℕ) (found : Option (List ℤ)) (low : ℤ) (next : Step) (k : ℕ) → k < length (nodes_of p past) → (k ≡ i → ⊥)
-    → share p (Put seat i found low next ∷ past) k ≤ share p past k
-share-put p past seat i found low next k born other =
+share-put : (p : Program) (s : Settings) (past : List Entry) (seat i : ℕ) (found : Option (List ℤ)) (low : ℤ) (next : Step) (k : ℕ) → k < length (nodes_of p past) → (k ≡ i → ⊥)
+    → share p s (Put seat i found low next ∷ past) k ≤ share p s past k
+share-put p s past seat i found low next k born other =
     let new : List Entry = Put seat i found low next ∷ past in
     let node : node_at p new k ≡ node_at p past k = get_or-grown p (nodes_of p past) (Put seat i found low next) (root_node p) k born in
     let st : state_of new k ≡ state_of past k = state_kept k i (state_of past k) (put_state next) (λ e. other (sym e)) in
     let points : node_points p new k ≡ node_points p past k = ap (λ (n : Node). points_in (full_along p n.path).lows (full_along p n.path).highs) node in
-    let opens : is_open p new k ≡ true → is_open p past k ≡ true = λ h.
-    let P : Node → Type 0 = λ n. (has_point (full_along p n.path).lows (full_along p n.path).highs && is_below n.low (best_of p new)) ≡ true in
+    let opens : is_open p s new k ≡ true → is_open p s past k ≡ true = λ h.
+    let P : Node → Type 0 = λ n. (has_point (full_along p n.path).lows (full_along p n.path).highs && is_below n.low (cutoff_for p s new)) ≡ true in
     let parts = and_parts _ _ (subst P node h) in
-    and_from _ _ parts.0 (below_before p (best_of p past) (Put seat i found low next) (node_at p past k).low parts.1) in
-    let a : share p new k ≡ share_in (state_of past k) (is_open p new k) (node_points p past k) =
-    ap (λ t. share_in t (is_open p new k) (node_points p new k)) st ∙ ap (share_in (state_of past k) (is_open p new k)) points in
-    rw a (share-falls (state_of past k) (is_open p past k) (is_open p new k) (node_points p past k) opens)
+    and_from _ _ parts.0 (below_before p s.gap (best_of p past) (Put seat i found low next) (node_at p past k).low parts.1) in
+    let a : share p s new k ≡ share_in (state_of past k) (is_open p s new k) (node_points p past k) =
+    ap (λ t. share_in t (is_open p s new k) (node_points p new k)) st ∙ ap (share_in (state_of past k) (is_open p s new k)) points in
+    rw a (share-falls (state_of past k) (is_open p s past k) (is_open p s new k) (node_points p past k) opens)
 
-unborn_state : (p : Program) (s : Settings) (past : List Entry) (seat i : ℕ) (found : Option (List ℤ)) (low : ℤ) (next : Step) → IsLegalPast p s past → MayPut p past seat i found low next
+unborn_state : (p : Program) (s : Settings) (past : List Entry) (seat i : ℕ) (found : Option (List ℤ)) (low : ℤ) (next : Step) → IsLegalPast p s past → MayPut p s past seat i found low next
     → (k : ℕ) → length (nodes_of p past) ≤ k → state_of (Put seat i found low next ∷ past) k ≡ waiting
 unborn_state p s past seat i found low next l may k h =
     let b : i < length (nodes_of p past) = out_born p past i seat (shape p s past l) may.is_out in
@@ -213,7 +213,7 @@ outs_used p s (Put seat i found low next ∷ past) l =
     let d : total (out_one new) (length (nodes_of p new)) ≤ total (out_one new) (length (nodes_of p past)) = no_more next l.0 in
     omega (arith, ih, c, d)
   where
-    no_more : (next : Step) → MayPut p past seat i found low next → total (out_one (Put seat i found low next ∷ past)) (length (nodes_of p (Put seat i found low next ∷ past))) ≤ total (out_one (Put seat i found low next ∷ past)) (length (nodes_of p past))
+    no_more : (next : Step) → MayPut p s past seat i found low next → total (out_one (Put seat i found low next ∷ past)) (length (nodes_of p (Put seat i found low next ∷ past))) ≤ total (out_one (Put seat i found low next ∷ past)) (length (nodes_of p past))
     no_more Shut may = omega arith
     no_more (Split common column at) may =
         let len = length-append (nodes_of p past) (left_of (node_at p past i) i low common column at ∷ right_of (node_at p past i) i low common column at ∷ []) in
@@ -226,73 +226,73 @@ outs_used p s (Put seat i found low next ∷ past) l =
 
 -- the shares of the nodes add up to no more than the number of points allows
 pub room_within : (p : Program) (s : Settings) (past : List Entry) → IsLegalPast p s past
-    → used_of past + total (share p past) (length (nodes_of p past)) ≤ 2 * points_in (own_lows p) (own_highs p) - 1
+    → used_of past + total (share p s past) (length (nodes_of p past)) ≤ 2 * points_in (own_lows p) (own_highs p) - 1
 room_within p s [] l =
-    let h : share p [] 0 ≤ 2 * points_in (own_lows p) (own_highs p) - 1 = share-waiting (is_open p [] 0) (node_points p [] 0) in
+    let h : share p s [] 0 ≤ 2 * points_in (own_lows p) (own_highs p) - 1 = share-waiting (is_open p s [] 0) (node_points p [] 0) in
     omega (arith, h)
 room_within p s (Take seat i ∷ past) l =
-    let ih : used_of past + total (share p past) (length (nodes_of p past)) ≤ 2 * points_in (own_lows p) (own_highs p) - 1 = room_within p s past l.1 in
+    let ih : used_of past + total (share p s past) (length (nodes_of p past)) ≤ 2 * points_in (own_lows p) (own_highs p) - 1 = room_within p s past l.1 in
     let g = take_gives p s past i l.0 in
     let born : i < length (nodes_of p past) = g.born in
-    let c : total (share p (Take seat i ∷ past)) (length (nodes_of p past)) + share p past i ≤ total (share p past) (length (nodes_of p past)) + share p (Take seat i ∷ past) i =
-    total-change (share p past) (share p (Take seat i ∷ past)) (length (nodes_of p past)) i born
-    (λ k b ne. let e : share p (Take seat i ∷ past) k ≡ share p past k = ap (λ t. share_in t (is_open p past k) (node_points p past k)) (state_kept k i (state_of past k) (out seat) (λ h. ne (sym h))) in omega (arith, e)) in
-    let was : share p past i ≡ 2 * node_points p past i - 1 =
-    ap (λ t. share_in t (is_open p past i) (node_points p past i)) (is_waiting-is (state_of past i) g.waits) ∙ ap (λ b. share_in waiting b (node_points p past i)) g.open_node in
-    let now : share p (Take seat i ∷ past) i ≡ 2 * node_points p past i - 2 =
-    ap (λ t. share_in t (is_open p past i) (node_points p past i)) (cond-true (i == i) (out seat) (state_of past i) (eq-eqb i i refl)) in
-    let some : 0 < node_points p past i = has_point-points _ _ (and_parts (has_point (full_of p past i).lows (full_of p past i).highs) (is_below (node_at p past i).low (best_of p past)) g.open_node).0 in
+    let c : total (share p s (Take seat i ∷ past)) (length (nodes_of p past)) + share p s past i ≤ total (share p s past) (length (nodes_of p past)) + share p s (Take seat i ∷ past) i =
+    total-change (share p s past) (share p s (Take seat i ∷ past)) (length (nodes_of p past)) i born
+    (λ k b ne. let e : share p s (Take seat i ∷ past) k ≡ share p s past k = ap (λ t. share_in t (is_open p s past k) (node_points p past k)) (state_kept k i (state_of past k) (out seat) (λ h. ne (sym h))) in omega (arith, e)) in
+    let was : share p s past i ≡ 2 * node_points p past i - 1 =
+    ap (λ t. share_in t (is_open p s past i) (node_points p past i)) (is_waiting-is (state_of past i) g.waits) ∙ ap (λ b. share_in waiting b (node_points p past i)) g.open_node in
+    let now : share p s (Take seat i ∷ past) i ≡ 2 * node_points p past i - 2 =
+    ap (λ t. share_in t (is_open p s past i) (node_points p past i)) (cond-true (i == i) (out seat) (state_of past i) (eq-eqb i i refl)) in
+    let some : 0 < node_points p past i = has_point-points _ _ (and_parts (has_point (full_of p past i).lows (full_of p past i).highs) (is_below (node_at p past i).low (cutoff_for p s past)) g.open_node).0 in
     omega (arith, ih, c, was, now, some)
 room_within p s (Back seat i ∷ past) l =
-    let ih : used_of past + total (share p past) (length (nodes_of p past)) ≤ 2 * points_in (own_lows p) (own_highs p) - 1 = room_within p s past l.1 in
+    let ih : used_of past + total (share p s past) (length (nodes_of p past)) ≤ 2 * points_in (own_lows p) (own_highs p) - 1 = room_within p s past l.1 in
     let born : i < length (nodes_of p past) = out_born p past i seat (shape p s past l.1) l.0 in
-    let c : total (share p (Back seat i ∷ past)) (length (nodes_of p past)) + share p past i ≤ total (share p past) (length (nodes_of p past)) + share p (Back seat i ∷ past) i =
-    total-change (share p past) (share p (Back seat i ∷ past)) (length (nodes_of p past)) i born
-    (λ k b ne. let e : share p (Back seat i ∷ past) k ≡ share p past k = ap (λ t. share_in t (is_open p past k) (node_points p past k)) (state_kept k i (state_of past k) waiting (λ h. ne (sym h))) in omega (arith, e)) in
-    let was : share p past i ≡ 2 * node_points p past i - 2 = ap (λ t. share_in t (is_open p past i) (node_points p past i)) l.0 in
-    let is : share p (Back seat i ∷ past) i ≡ share_in waiting (is_open p past i) (node_points p past i) =
-    ap (λ t. share_in t (is_open p past i) (node_points p past i)) (cond-true (i == i) waiting (state_of past i) (eq-eqb i i refl)) in
-    let now : share_in waiting (is_open p past i) (node_points p past i) ≤ 2 * node_points p past i - 1 = share-waiting (is_open p past i) (node_points p past i) in
+    let c : total (share p s (Back seat i ∷ past)) (length (nodes_of p past)) + share p s past i ≤ total (share p s past) (length (nodes_of p past)) + share p s (Back seat i ∷ past) i =
+    total-change (share p s past) (share p s (Back seat i ∷ past)) (length (nodes_of p past)) i born
+    (λ k b ne. let e : share p s (Back seat i ∷ past) k ≡ share p s past k = ap (λ t. share_in t (is_open p s past k) (node_points p past k)) (state_kept k i (state_of past k) waiting (λ h. ne (sym h))) in omega (arith, e)) in
+    let was : share p s past i ≡ 2 * node_points p past i - 2 = ap (λ t. share_in t (is_open p s past i) (node_points p past i)) l.0 in
+    let is : share p s (Back seat i ∷ past) i ≡ share_in waiting (is_open p s past i) (node_points p past i) =
+    ap (λ t. share_in t (is_open p s past i) (node_points p past i)) (cond-true (i == i) waiting (state_of past i) (eq-eqb i i refl)) in
+    let now : share_in waiting (is_open p s past i) (node_points p past i) ≤ 2 * node_points p past i - 1 = share-waiting (is_open p s past i) (node_points p past i) in
     let outs : total (out_one past) (length (nodes_of p past)) ≤ used_of past = outs_used p s past l.1 in
     let one : out_one past i ≡ 1 = ap (λ t. one_if (is_out t)) l.0 in
     let some : out_one past i ≤ total (out_one past) (length (nodes_of p past)) = total-at (out_one past) (length (nodes_of p past)) i born in
     omega (arith, ih, c, was, is, now, outs, one, some)
 room_within p s (Encode seat i form ∷ past) l = room_within p s past l.1
 room_within p s (Free seat ids ∷ past) l =
-    let ih : used_of past + total (share p past) (length (nodes_of p past)) ≤ 2 * points_in (own_lows p) (own_highs p) - 1 = room_within p s past l.1 in
-    let c : total (share p (Free seat ids ∷ past)) (length (nodes_of p past)) ≤ total (share p past) (length (nodes_of p past)) =
-    total-le (share p past) (share p (Free seat ids ∷ past)) (length (nodes_of p past))
-    (λ k b. by_test (λ (t : State). share_in t (is_open p past k) (node_points p past k) ≤ share p past k) (is_among k ids) freed (state_of past k) (λ _. omega arith) (λ _. omega arith)) in
+    let ih : used_of past + total (share p s past) (length (nodes_of p past)) ≤ 2 * points_in (own_lows p) (own_highs p) - 1 = room_within p s past l.1 in
+    let c : total (share p s (Free seat ids ∷ past)) (length (nodes_of p past)) ≤ total (share p s past) (length (nodes_of p past)) =
+    total-le (share p s past) (share p s (Free seat ids ∷ past)) (length (nodes_of p past))
+    (λ k b. by_test (λ (t : State). share_in t (is_open p s past k) (node_points p past k) ≤ share p s past k) (is_among k ids) freed (state_of past k) (λ _. omega arith) (λ _. omega arith)) in
     omega (arith, ih, c)
 room_within p s (Put seat i found low next ∷ past) l =
-    let ih : used_of past + total (share p past) (length (nodes_of p past)) ≤ 2 * points_in (own_lows p) (own_highs p) - 1 = room_within p s past l.1 in
+    let ih : used_of past + total (share p s past) (length (nodes_of p past)) ≤ 2 * points_in (own_lows p) (own_highs p) - 1 = room_within p s past l.1 in
     let new : List Entry = Put seat i found low next ∷ past in
     let born : i < length (nodes_of p past) = out_born p past i seat (shape p s past l.1) l.0.is_out in
-    let c : total (share p new) (length (nodes_of p past)) + share p past i ≤ total (share p past) (length (nodes_of p past)) + share p new i =
-    total-change (share p past) (share p new) (length (nodes_of p past)) i born (λ k b ne. share-put p past seat i found low next k b ne) in
-    let was : share p past i ≡ 2 * node_points p past i - 2 = ap (λ t. share_in t (is_open p past i) (node_points p past i)) l.0.is_out in
-    let now : share p new i ≡ 0 =
-    ap (λ t. share_in t (is_open p new i) (node_points p new i)) (cond-true (i == i) (put_state next) (state_of past i) (eq-eqb i i refl))
-    ∙ put_state-no_share next (is_open p new i) (node_points p new i) in
-    let d : total (share p new) (length (nodes_of p new)) ≤ total (share p new) (length (nodes_of p past)) + (2 * node_points p past i - 2) = children next l.0 in
+    let c : total (share p s new) (length (nodes_of p past)) + share p s past i ≤ total (share p s past) (length (nodes_of p past)) + share p s new i =
+    total-change (share p s past) (share p s new) (length (nodes_of p past)) i born (λ k b ne. share-put p s past seat i found low next k b ne) in
+    let was : share p s past i ≡ 2 * node_points p past i - 2 = ap (λ t. share_in t (is_open p s past i) (node_points p past i)) l.0.is_out in
+    let now : share p s new i ≡ 0 =
+    ap (λ t. share_in t (is_open p s new i) (node_points p new i)) (cond-true (i == i) (put_state next) (state_of past i) (eq-eqb i i refl))
+    ∙ put_state-no_share next (is_open p s new i) (node_points p new i) in
+    let d : total (share p s new) (length (nodes_of p new)) ≤ total (share p s new) (length (nodes_of p past)) + (2 * node_points p past i - 2) = children next l.0 in
     omega (arith, ih, c, was, now, d)
   where
-    children : (next : Step) → MayPut p past seat i found low next
-        → total (share p (Put seat i found low next ∷ past)) (length (nodes_of p (Put seat i found low next ∷ past)))
-        ≤ total (share p (Put seat i found low next ∷ past)) (length (nodes_of p past)) + (2 * node_points p past i - 2)
+    children : (next : Step) → MayPut p s past seat i found low next
+        → total (share p s (Put seat i found low next ∷ past)) (length (nodes_of p (Put seat i found low next ∷ past)))
+        ≤ total (share p s (Put seat i found low next ∷ past)) (length (nodes_of p past)) + (2 * node_points p past i - 2)
     children Shut may = omega arith
     children (Split common column at) may =
         let new : List Entry = Put seat i found low (Split common column at) ∷ past in
         let n : ℕ = length (nodes_of p past) in
         let len = length-append (nodes_of p past) (left_of (node_at p past i) i low common column at ∷ right_of (node_at p past i) i low common column at ∷ []) in
-        let two : total (share p new) (length (nodes_of p new)) ≡ (total (share p new) n + share p new n) + share p new (n + 1) = total-two (share p new) n (length (nodes_of p new)) len in
+        let two : total (share p s new) (length (nodes_of p new)) ≡ (total (share p s new) n + share p s new n) + share p s new (n + 1) = total-two (share p s new) n (length (nodes_of p new)) len in
         let wl : state_of new n ≡ waiting = unborn_state p s past seat i found low (Split common column at) l.1 may n (omega arith) in
         let wr : state_of new (n + 1) ≡ waiting = unborn_state p s past seat i found low (Split common column at) l.1 may (n + 1) (omega arith) in
-        let a : share p new n ≡ share_in waiting (is_open p new n) (node_points p new n) = ap (λ t. share_in t (is_open p new n) (node_points p new n)) wl in
-        let a' : share_in waiting (is_open p new n) (node_points p new n) ≤ 2 * node_points p new n - 1 = share-waiting (is_open p new n) (node_points p new n) in
-        let b : share p new (n + 1) ≡ share_in waiting (is_open p new (n + 1)) (node_points p new (n + 1)) = ap (λ t. share_in t (is_open p new (n + 1)) (node_points p new (n + 1))) wr in
-        let b' : share_in waiting (is_open p new (n + 1)) (node_points p new (n + 1)) ≤ 2 * node_points p new (n + 1) - 1 = share-waiting (is_open p new (n + 1)) (node_points p new (n + 1)) in
-        let h : SplitPoints p past i (node_points p new n) (node_points p new (n + 1)) = split_points p past seat i found low common column at may in
+        let a : share p s new n ≡ share_in waiting (is_open p s new n) (node_points p new n) = ap (λ t. share_in t (is_open p s new n) (node_points p new n)) wl in
+        let a' : share_in waiting (is_open p s new n) (node_points p new n) ≤ 2 * node_points p new n - 1 = share-waiting (is_open p s new n) (node_points p new n) in
+        let b : share p s new (n + 1) ≡ share_in waiting (is_open p s new (n + 1)) (node_points p new (n + 1)) = ap (λ t. share_in t (is_open p s new (n + 1)) (node_points p new (n + 1))) wr in
+        let b' : share_in waiting (is_open p s new (n + 1)) (node_points p new (n + 1)) ≤ 2 * node_points p new (n + 1) - 1 = share-waiting (is_open p s new (n + 1)) (node_points p new (n + 1)) in
+        let h : SplitPoints p s past i (node_points p new n) (node_points p new (n + 1)) = split_points p s past seat i found low common column at may in
         let adds : node_points p new n + node_points p new (n + 1) ≡ h.whole = h.halves.adds in
         let fewer : h.whole ≤ node_points p past i = h.fewer in
         elim h.halves.both [
@@ -300,44 +300,44 @@ room_within p s (Put seat i found low next ∷ past) l =
           | inr q ↦ let q0 : 0 < node_points p new n = q.0 in let q1 : 0 < node_points p new (n + 1) = q.1 in omega (arith, two, a, a', b, b', adds, fewer, q0, q1)
         ]
 
-pub within_budget : (p : Program) (s : Settings) (past : List Entry) → IsLegalPast p s past → used_of past + room_of p past ≤ 2 * points_in (own_lows p) (own_highs p) - 1
+pub within_budget : (p : Program) (s : Settings) (past : List Entry) → IsLegalPast p s past → used_of past + room_of p s past ≤ 2 * points_in (own_lows p) (own_highs p) - 1
 within_budget p s past l =
-    let e : room_of p past ≡ total (share p past) (length (nodes_of p past)) = sum_ids (share p past) (length (nodes_of p past)) in
-    let h : used_of past + total (share p past) (length (nodes_of p past)) ≤ 2 * points_in (own_lows p) (own_highs p) - 1 = room_within p s past l in
+    let e : room_of p s past ≡ total (share p s past) (length (nodes_of p past)) = sum_ids (share p s past) (length (nodes_of p past)) in
+    let h : used_of past + total (share p s past) (length (nodes_of p past)) ≤ 2 * points_in (own_lows p) (own_highs p) - 1 = room_within p s past l in
     omega (arith, e, h)
 
-pub record NothingLives (p : Program) (past : List Entry) : Type 0 where
+pub record NothingLives (p : Program) (s : Settings) (past : List Entry) : Type 0 where
   pub none_used : used_of past ≡ 0
-  pub no_room : room_of p past ≡ 0
-  pub none_live : (id : ℕ) → id < length (nodes_of p past) → is_live p past id ≡ false
+  pub no_room : room_of p s past ≡ 0
+  pub none_live : (id : ℕ) → id < length (nodes_of p past) → is_live p s past id ≡ false
 
-pub nothing_lives : (p : Program) (s : Settings) (past : List Entry) → IsLegalPast p s past → points_in (own_lows p) (own_highs p) ≡ 0 → NothingLives p past
+pub nothing_lives : (p : Program) (s : Settings) (past : List Entry) → IsLegalPast p s past → points_in (own_lows p) (own_highs p) ≡ 0 → NothingLives p s past
 nothing_lives p s past l none =
-    let h : used_of past + room_of p past ≤ 2 * points_in (own_lows p) (own_highs p) - 1 = within_budget p s past l in
+    let h : used_of past + room_of p s past ≤ 2 * points_in (own_lows p) (own_highs p) - 1 = within_budget p s past l in
     record {
       none_used = omega (arith, h, none);
       no_room = omega (arith, h, none);
       none_live = λ id born. not_live id born (state_of past id) refl;
     }
   where
-    closed : (id : ℕ) → is_open p past id ≡ false
+    closed : (id : ℕ) → is_open p s past id ≡ false
     closed id =
-        elim (cases_Bool (is_open p past id)) [
+        elim (cases_Bool (is_open p s past id)) [
           | inl t ↦
-              let some : 0 < node_points p past id = has_point-points _ _ (and_parts (has_point (full_of p past id).lows (full_of p past id).highs) (is_below (node_at p past id).low (best_of p past)) t).0 in
+              let some : 0 < node_points p past id = has_point-points _ _ (and_parts (has_point (full_of p past id).lows (full_of p past id).highs) (is_below (node_at p past id).low (cutoff_for p s past)) t).0 in
               let few : node_points p past id ≤ points_in (own_lows p) (own_highs p) = node_points-le p past id in
               absurd (omega (arith, some, few, none))
           | inr f ↦ f
         ]
 
-    not_live : (id : ℕ) → id < length (nodes_of p past) → (st : State) → state_of past id ≡ st → is_live p past id ≡ false
-    not_live id born waiting e = ap (λ t. is_live_in t (is_open p past id)) e ∙ closed id
+    not_live : (id : ℕ) → id < length (nodes_of p past) → (st : State) → state_of past id ≡ st → is_live p s past id ≡ false
+    not_live id born waiting e = ap (λ t. is_live_in t (is_open p s past id)) e ∙ closed id
     not_live id born (out seat) e =
-        let h : used_of past + room_of p past ≤ 2 * points_in (own_lows p) (own_highs p) - 1 = within_budget p s past l in
+        let h : used_of past + room_of p s past ≤ 2 * points_in (own_lows p) (own_highs p) - 1 = within_budget p s past l in
         let outs : total (out_one past) (length (nodes_of p past)) ≤ used_of past = outs_used p s past l in
         let one : out_one past id ≡ 1 = ap (λ t. one_if (is_out t)) e in
         let some : out_one past id ≤ total (out_one past) (length (nodes_of p past)) = total-at (out_one past) (length (nodes_of p past)) id born in
         absurd (omega (arith, h, none, outs, one, some))
-    not_live id born split e = ap (λ t. is_live_in t (is_open p past id)) e
-    not_live id born shut e = ap (λ t. is_live_in t (is_open p past id)) e
-    not_live id born freed e = ap (λ t. is_live_in t (is_open p past id)) e
+    not_live id born split e = ap (λ t. is_live_in t (is_open p s past id)) e
+    not_live id born shut e = ap (λ t. is_live_in t (is_open p s past id)) e
+    not_live id born freed e = ap (λ t. is_live_in t (is_open p s past id)) e

@@ -1,4 +1,4 @@
--- In a legal history each feasible point that is below the best value lies in exactly one live node.
+-- In a legal history each feasible point that is below the best value less the gap lies in exactly one live node.
 use Rattle.std.proofs.Common.{◌≡◌, ℕ, zero, suc, ◌+◌, ◌<◌, ◌≤◌, List, [], ◌∷◌, ◌++◌, length, refl, ap, sym, ◌∙◌, subst, arith, length-append, append_assoc, Bool, true, false, Some, None, Option, ◌⊎◌, inl, inr}
 use Rattle.std.specs.Prelude.{IfSome, ◌==◌, ℤ, pos, ◌≤ℤ◌, ◌+ℤ◌, int_le, slice_get}
 use Rattle.std.specs.Int.{int_max}
@@ -21,7 +21,7 @@ use Rattle.bl_journal.specs.Soundness.{IsInQuestion, cutoff_with, decisions_of}
 use Rattle.bl_journal.specs.declared.settings.Settings.{Settings}
 use Rattle.bl_journal.specs.Births.{Node, Branch, nodes_of, node_at, grown, root_node, left_branch, right_branch}
 use Rattle.bl_journal.specs.Descriptions.{IsInNode, full_of, decisions_along}
-use Rattle.bl_journal.specs.States.{State, waiting, out, split, shut, freed, state_of, put_state, is_open, is_live_in, is_below, best_of, best_with, has_point, cutoff_of}
+use Rattle.bl_journal.specs.States.{State, waiting, out, split, shut, freed, state_of, put_state, is_open, is_live_in, is_below, value_less, cutoff_for, best_of, best_with, has_point, cutoff_of}
 use Rattle.bl_journal.specs.Freeing.{is_over}
 use Rattle.bl_journal.specs.Results.{LiesIn}
 use Rattle.bl_journal.specs.Legality.{IsAllowed, IsLegalPast, MayPut}
@@ -71,17 +71,17 @@ InBox-has_point (l ∷ lows) (h ∷ highs) (v ∷ x) i =
     let le : int_le l h ≡ true = grind (arith, ints, a, b) in
     and_from (int_le l h) (has_point lows highs) le (InBox-has_point lows highs x i.2)
 
-is_below-less : (p : Program) (past : List Entry) (low v : ℤ) → low ≤ℤ v → is_below v (best_of p past) ≡ true → is_below low (best_of p past) ≡ true
-is_below-less p past low v h b =
-    elim (best_of p past) as (λ o. is_below v o ≡ true → is_below low o ≡ true) [ None ↦ λ _. refl | Some f ↦ λ k. grind (arith, ints, k, h) ] b
+is_below-less : (cutoff : Option ℤ) (low v : ℤ) → low ≤ℤ v → is_below v cutoff ≡ true → is_below low cutoff ≡ true
+is_below-less None low v h b = refl
+is_below-less (Some c) low v h b = grind (arith, ints, b, h)
 
--- a leaf with a point below the best value is open
-pub leaf_open : (p : Program) (past : List Entry) (id : ℕ) (x : List ℤ) → IsInNode p past id x → (node_at p past id).low ≤ℤ value_of p x
-    → is_below (value_of p x) (best_of p past) ≡ true → is_open p past id ≡ true
-leaf_open p past id x i low b =
-    and_from (has_point (full_of p past id).lows (full_of p past id).highs) (is_below (node_at p past id).low (best_of p past))
+-- a leaf with a point below the best value less the gap is open
+pub leaf_open : (p : Program) (s : Settings) (past : List Entry) (id : ℕ) (x : List ℤ) → IsInNode p past id x → (node_at p past id).low ≤ℤ value_of p x
+    → is_below (value_of p x) (cutoff_for p s past) ≡ true → is_open p s past id ≡ true
+leaf_open p s past id x i low b =
+    and_from (has_point (full_of p past id).lows (full_of p past id).highs) (is_below (node_at p past id).low (cutoff_for p s past))
     (InBox-has_point (full_of p past id).lows (full_of p past id).highs x (InNode-box p past id x i))
-    (is_below-less p past (node_at p past id).low (value_of p x) low b)
+    (is_below-less (cutoff_for p s past) (node_at p past id).low (value_of p x) low b)
 
 -- a leaf after an entry was one before it
 pub leaf_before : (p : Program) (s : Settings) (past : List Entry) (e : Entry) → IsAllowed p s past e → (id : ℕ)
@@ -158,7 +158,7 @@ LeavesApart p past x =
     → Inside p x (node_at p past i) → Inside p x (node_at p past j) → i ≡ j
 
 leaves_apart-split : (p : Program) (s : Settings) (past : List Entry) (seat k : ℕ) (found : Option (List ℤ)) (low : ℤ) (common : Change Cut) (column : ℕ) (at : ℤ)
-    → IsLegalPast p s past → MayPut p past seat k found low (Split common column at) → (x : List ℤ) → LeavesApart p past x
+    → IsLegalPast p s past → MayPut p s past seat k found low (Split common column at) → (x : List ℤ) → LeavesApart p past x
     → LeavesApart p (Put seat k found low (Split common column at) ∷ past) x
 leaves_apart-split p s past seat k found low common column at legal a x ih i j hi hj li lj mi mj =
     after_split nodes left right root i (λ n. Inside p x n → i ≡ j)
@@ -240,31 +240,31 @@ pub record Covered (p : Program) (past : List Entry) (x : List ℤ) : Type 0 whe
   pub inside : Inside p x (node_at p past id)
   pub low : (node_at p past id).low ≤ℤ value_of p x
 
-pub covered : (p : Program) (s : Settings) (past : List Entry) → IsLegalPast p s past → (x : List ℤ) → IsFeasible p x
-    → is_below (value_of p x) (best_of p past) ≡ true → Covered p past x
-covered p s [] l x f b =
+pub covered : (p : Program) (s : Settings) (past : List Entry) → pos 0 ≤ℤ s.gap → IsLegalPast p s past → (x : List ℤ) → IsFeasible p x
+    → is_below (value_of p x) (cutoff_for p s past) ≡ true → Covered p past x
+covered p s [] g l x f b =
     record { id = 0; born = omega arith; leaf = refl; inside = (f.box, tt); low = trivial_bound-below p (own_lows p) (own_highs p) x f.box }
-covered p s (Take seat k ∷ past) l x f b =
-    let c = covered p s past l.1 x f b in
+covered p s (Take seat k ∷ past) g l x f b =
+    let c = covered p s past g l.1 x f b in
     let P : State → Type 0 = λ t. is_leaf t ≡ true in
     record { id = c.id; born = c.born; leaf = by_test P (k == c.id) (out seat) (state_of past c.id) (λ _. refl) (λ _. c.leaf); inside = c.inside; low = c.low }
-covered p s (Back seat k ∷ past) l x f b =
-    let c = covered p s past l.1 x f b in
+covered p s (Back seat k ∷ past) g l x f b =
+    let c = covered p s past g l.1 x f b in
     let P : State → Type 0 = λ t. is_leaf t ≡ true in
     record { id = c.id; born = c.born; leaf = by_test P (k == c.id) waiting (state_of past c.id) (λ _. refl) (λ _. c.leaf); inside = c.inside; low = c.low }
-covered p s (Encode seat k form ∷ past) l x f b =
-    let c = covered p s past l.1 x f b in
+covered p s (Encode seat k form ∷ past) g l x f b =
+    let c = covered p s past g l.1 x f b in
     record { id = c.id; born = c.born; leaf = c.leaf; inside = c.inside; low = c.low }
-covered p s (Free seat ids ∷ past) l x f b =
-    let c = covered p s past l.1 x f b in
+covered p s (Free seat ids ∷ past) g l x f b =
+    let c = covered p s past g l.1 x f b in
     let P : State → Type 0 = λ t. is_leaf t ≡ true in
     let over = chain_over p s past (shape p s past l.1).parents ids l.0 in
-    let opened : is_open p past c.id ≡ true = leaf_open p past c.id x c.inside c.low b in
+    let opened : is_open p s past c.id ≡ true = leaf_open p s past c.id x c.inside c.low b in
     record {
       id = c.id;
       born = c.born;
       leaf = by_test P (is_among c.id ids) freed (state_of past c.id)
-          (λ m. let w : WasOver p past c.id = Each-among (λ q. WasOver p past q) ids c.id over m in
+          (λ m. let w : WasOver p s past c.id = Each-among (λ q. WasOver p s past q) ids c.id over m in
           absurd (leaf_not_over (state_of past c.id) c.leaf (rw opened at w.over)))
           (λ _. c.leaf);
       inside = c.inside;
@@ -277,8 +277,8 @@ covered p s (Free seat ids ∷ past) l x f b =
     leaf_not_over split a o = true≢false (sym a)
     leaf_not_over shut a o = true≢false (sym a)
     leaf_not_over freed a o = true≢false (sym a)
-covered p s (Put seat k found low next ∷ past) l x f b =
-    let c = covered p s past l.1 x f (below_before p (best_of p past) (Put seat k found low next) (value_of p x) b) in
+covered p s (Put seat k found low next ∷ past) g l x f b =
+    let c = covered p s past g l.1 x f (below_before p s.gap (best_of p past) (Put seat k found low next) (value_of p x) b) in
     elim (cases_eq c.id k) [
       | inl same ↦ at_put next l.0 b c same
       | inr other ↦
@@ -294,16 +294,16 @@ covered p s (Put seat k found low next ∷ past) l x f b =
           }
     ]
   where
-    in_question : (next : Step) → MayPut p past seat k found low next → is_below (value_of p x) (best_with p (best_of p past) found) ≡ true → Inside p x (node_at p past k)
-        → IsInQuestion p (full_of p past k) (cutoff_with p (cutoff_of p past k) found) x
+    in_question : (next : Step) → MayPut p s past seat k found low next → is_below (value_of p x) (value_less s.gap (best_with p (best_of p past) found)) ≡ true → Inside p x (node_at p past k)
+        → IsInQuestion p (full_of p past k) (cutoff_with p (cutoff_of p s past k) found) x
     in_question next a b inside =
         record {
           feasible = f;
           in_box = InNode-box p past k x inside;
-          below = below_cutoff p (best_of p past) (cutoff_of p past k) found (value_of p x) (cutoff_holds p past k seat a.is_out) b;
+          below = below_cutoff p s.gap (best_of p past) (cutoff_of p s past k) found (value_of p x) g (cutoff_holds p s past k seat a.is_out) b;
         }
 
-    at_put : (next : Step) → MayPut p past seat k found low next → is_below (value_of p x) (best_with p (best_of p past) found) ≡ true
+    at_put : (next : Step) → MayPut p s past seat k found low next → is_below (value_of p x) (value_less s.gap (best_with p (best_of p past) found)) ≡ true
         → (c : Covered p past x) → c.id ≡ k → Covered p (Put seat k found low next ∷ past) x
     at_put Shut a b c same =
         let P : ℕ → Type 0 = λ n. Inside p x (node_at p past n) in
@@ -358,13 +358,13 @@ live_leaf split b l = l
 live_leaf shut b l = l
 live_leaf freed b l = l
 
-pub lies_somewhere : (p : Program) (s : Settings) (past : List Entry) → IsLegalPast p s past → (x : List ℤ) → IsFeasible p x
-    → is_below (value_of p x) (best_of p past) ≡ true → (id : ℕ) × LiesIn p past x id
-lies_somewhere p s past l x f b =
-    let c = covered p s past l x f b in
-    let opened : is_open p past c.id ≡ true = leaf_open p past c.id x c.inside c.low b in
+pub lies_somewhere : (p : Program) (s : Settings) (past : List Entry) → pos 0 ≤ℤ s.gap → IsLegalPast p s past → (x : List ℤ) → IsFeasible p x
+    → is_below (value_of p x) (cutoff_for p s past) ≡ true → (id : ℕ) × LiesIn p s past x id
+lies_somewhere p s past g l x f b =
+    let c = covered p s past g l x f b in
+    let opened : is_open p s past c.id ≡ true = leaf_open p s past c.id x c.inside c.low b in
     (c.id, record { born = c.born; live = rw opened (leaf_live (state_of past c.id) c.leaf); inside = c.inside; low = c.low })
 
-pub lies_once : (p : Program) (s : Settings) (past : List Entry) → IsLegalPast p s past → (x : List ℤ) (i j : ℕ) → LiesIn p past x i → LiesIn p past x j → i ≡ j
+pub lies_once : (p : Program) (s : Settings) (past : List Entry) → IsLegalPast p s past → (x : List ℤ) (i j : ℕ) → LiesIn p s past x i → LiesIn p s past x j → i ≡ j
 lies_once p s past l x i j a b =
-    leaves_apart p s past l x i j a.born b.born (live_leaf (state_of past i) (is_open p past i) a.live) (live_leaf (state_of past j) (is_open p past j) b.live) a.inside b.inside
+    leaves_apart p s past l x i j a.born b.born (live_leaf (state_of past i) (is_open p s past i) a.live) (live_leaf (state_of past j) (is_open p s past j) b.live) a.inside b.inside

@@ -1,6 +1,6 @@
--- The best value only falls, so the cutoff of a node that is out is not below it.
+-- The best value only falls, so the cutoff of a node that is out is at least the best value less the gap.
 use Rattle.std.proofs.Common.{◌≡◌, ℕ, List, [], ◌∷◌, refl, arith, Bool, true, false, cond, Some, None, Option}
-use Rattle.std.specs.Prelude.{IfSome, ◌==◌, ℤ, ◌≤ℤ◌, ◌<ℤ◌, int_lt}
+use Rattle.std.specs.Prelude.{IfSome, ◌==◌, ℤ, pos, ◌-ℤ◌, ◌≤ℤ◌, ◌<ℤ◌, int_lt}
 use Rattle.std.specs.Int.{int_min}
 use Rattle.std.proofs.lemmas.Int.{ints, clamps}
 use Rattle.bl_problem.specs.Program.{Program}
@@ -10,88 +10,89 @@ use Rattle.bl_journal.specs.declared.entry.Entry.TheVariants.{Take, Put, Back, E
 use Rattle.bl_journal.specs.declared.entry.Step.{Step}
 use Rattle.bl_journal.specs.declared.entry.Step.TheVariants.{Shut, Split}
 use Rattle.bl_journal.specs.Soundness.{cutoff_with}
-use Rattle.bl_journal.specs.States.{State, waiting, out, freed, state_of, put_state, Found, best_with, best_after, best_of, cutoff_of, value_if, is_below}
+use Rattle.bl_journal.specs.declared.settings.Settings.{Settings}
+use Rattle.bl_journal.specs.States.{State, waiting, out, freed, state_of, put_state, Found, best_with, best_after, best_of, value_less, cutoff_for, cutoff_of, is_below}
 use Rattle.bl_mods.specs.Mods.{is_among}
 use Rattle.bl_journal.proofs.Leaves.{by_test}
 
--- a value below the new best is below the old one
-pub below_before : (p : Program) (best : Option Found) (e : Entry) (v : ℤ) → is_below v (best_after p best e) ≡ true → is_below v best ≡ true
-below_before p best (Take seat i) v h = h
-below_before p best (Back seat i) v h = h
-below_before p best (Encode seat i form) v h = h
-below_before p best (Free seat ids) v h = h
-below_before p best (Put seat i None low next) v h = h
-below_before p None (Put seat i (Some x) low next) v h = refl
-below_before p (Some b) (Put seat i (Some x) low next) v h =
+-- a value below the new best less the gap is below the old one less the gap
+pub below_before : (p : Program) (gap : ℤ) (best : Option Found) (e : Entry) (v : ℤ) → is_below v (value_less gap (best_after p best e)) ≡ true → is_below v (value_less gap best) ≡ true
+below_before p gap best (Take seat i) v h = h
+below_before p gap best (Back seat i) v h = h
+below_before p gap best (Encode seat i form) v h = h
+below_before p gap best (Free seat ids) v h = h
+below_before p gap best (Put seat i None low next) v h = h
+below_before p gap None (Put seat i (Some x) low next) v h = refl
+below_before p gap (Some b) (Put seat i (Some x) low next) v h =
     let f : Found = record { value = value_of p x; point = x } in
-    let P : Option Found → Type 0 = λ o. is_below v o ≡ true → int_lt v b.value ≡ true in
+    let P : Option Found → Type 0 = λ o. is_below v (value_less gap o) ≡ true → int_lt v (b.value -ℤ gap) ≡ true in
     by_test P (int_lt f.value b.value) (Some f) (Some b) (λ t k. grind (arith, ints, t, k)) (λ _ k. k) h
 
--- the best value is at most the cutoff
-abbrev pub BestWithin : Option Found → Option ℤ → Type 0
-BestWithin best None = Unit {0}
-BestWithin None (Some c) = ⊥
-BestWithin (Some b) (Some c) = b.value ≤ℤ c
+-- the best value less the gap is at most the cutoff
+abbrev pub BestWithin : ℤ → Option Found → Option ℤ → Type 0
+BestWithin gap best None = Unit {0}
+BestWithin gap None (Some c) = ⊥
+BestWithin gap (Some b) (Some c) = (b.value -ℤ gap) ≤ℤ c
 
-pub BestWithin-self : (best : Option Found) → BestWithin best (value_if best)
-BestWithin-self None = tt
-BestWithin-self (Some b) = omega (arith, ints)
+pub BestWithin-self : (gap : ℤ) (best : Option Found) → BestWithin gap best (value_less gap best)
+BestWithin-self gap None = tt
+BestWithin-self gap (Some b) = omega (arith, ints)
 
-pub BestWithin-falls : (p : Program) (best : Option Found) (c : Option ℤ) (e : Entry) → BestWithin best c → BestWithin (best_after p best e) c
-BestWithin-falls p best None e w = tt
-BestWithin-falls p None (Some c) e w = absurd w
-BestWithin-falls p (Some b) (Some c) (Take seat i) w = w
-BestWithin-falls p (Some b) (Some c) (Back seat i) w = w
-BestWithin-falls p (Some b) (Some c) (Encode seat i form) w = w
-BestWithin-falls p (Some b) (Some c) (Free seat ids) w = w
-BestWithin-falls p (Some b) (Some c) (Put seat i None low next) w = w
-BestWithin-falls p (Some b) (Some c) (Put seat i (Some x) low next) w =
+pub BestWithin-falls : (p : Program) (gap : ℤ) (best : Option Found) (c : Option ℤ) (e : Entry) → BestWithin gap best c → BestWithin gap (best_after p best e) c
+BestWithin-falls p gap best None e w = tt
+BestWithin-falls p gap None (Some c) e w = absurd w
+BestWithin-falls p gap (Some b) (Some c) (Take seat i) w = w
+BestWithin-falls p gap (Some b) (Some c) (Back seat i) w = w
+BestWithin-falls p gap (Some b) (Some c) (Encode seat i form) w = w
+BestWithin-falls p gap (Some b) (Some c) (Free seat ids) w = w
+BestWithin-falls p gap (Some b) (Some c) (Put seat i None low next) w = w
+BestWithin-falls p gap (Some b) (Some c) (Put seat i (Some x) low next) w =
     let f : Found = record { value = value_of p x; point = x } in
-    let P : Option Found → Type 0 = λ o. BestWithin o (Some c) in
+    let P : Option Found → Type 0 = λ o. BestWithin gap o (Some c) in
     by_test P (int_lt f.value b.value) (Some f) (Some b) (λ t. grind (arith, ints, t, w)) (λ _. w)
 
--- what is below the best value after a put is below the put's own cutoff
-pub below_cutoff : (p : Program) (best : Option Found) (c : Option ℤ) (found : Option (List ℤ)) (v : ℤ) → BestWithin best c
-    → is_below v (best_with p best found) ≡ true → IfSome (cutoff_with p c found) (λ d. v <ℤ d)
-below_cutoff p best None None v w h = tt
-below_cutoff p None (Some c) found v w h = absurd w
-below_cutoff p (Some b) (Some c) None v w h = grind (arith, ints, w, h)
-below_cutoff p None None (Some x) v w h = grind (arith, ints, h)
-below_cutoff p (Some b) None (Some x) v w h =
+-- what is below the best value less the gap after a put is below the put's own cutoff
+pub below_cutoff : (p : Program) (gap : ℤ) (best : Option Found) (c : Option ℤ) (found : Option (List ℤ)) (v : ℤ) → pos 0 ≤ℤ gap → BestWithin gap best c
+    → is_below v (value_less gap (best_with p best found)) ≡ true → IfSome (cutoff_with p c found) (λ d. v <ℤ d)
+below_cutoff p gap best None None v g w h = tt
+below_cutoff p gap None (Some c) found v g w h = absurd w
+below_cutoff p gap (Some b) (Some c) None v g w h = grind (arith, ints, w, h)
+below_cutoff p gap None None (Some x) v g w h = grind (arith, ints, g, h)
+below_cutoff p gap (Some b) None (Some x) v g w h =
     let f : Found = record { value = value_of p x; point = x } in
-    let P : Option Found → Type 0 = λ o. is_below v o ≡ true → v <ℤ value_of p x in
-    by_test P (int_lt f.value b.value) (Some f) (Some b) (λ t k. grind (arith, ints, k)) (λ t k. grind (arith, ints, t, k)) h
-below_cutoff p (Some b) (Some c) (Some x) v w h =
+    let P : Option Found → Type 0 = λ o. is_below v (value_less gap o) ≡ true → v <ℤ value_of p x in
+    by_test P (int_lt f.value b.value) (Some f) (Some b) (λ t k. grind (arith, ints, g, k)) (λ t k. grind (arith, ints, g, t, k)) h
+below_cutoff p gap (Some b) (Some c) (Some x) v g w h =
     let f : Found = record { value = value_of p x; point = x } in
-    let P : Option Found → Type 0 = λ o. is_below v o ≡ true → v <ℤ int_min c (value_of p x) in
-    by_test P (int_lt f.value b.value) (Some f) (Some b) (λ t k. below_min v c f.value (grind (arith, ints, t, k, w)) (grind (arith, ints, k))) (λ t k. below_min v c f.value (grind (arith, ints, k, w)) (grind (arith, ints, t, k))) h
+    let P : Option Found → Type 0 = λ o. is_below v (value_less gap o) ≡ true → v <ℤ int_min c (value_of p x) in
+    by_test P (int_lt f.value b.value) (Some f) (Some b) (λ t k. below_min v c f.value (grind (arith, ints, t, k, w)) (grind (arith, ints, g, k))) (λ t k. below_min v c f.value (grind (arith, ints, k, w)) (grind (arith, ints, g, t, k))) h
   where
     below_min : (v c d : ℤ) → v <ℤ c → v <ℤ d → v <ℤ int_min c d
     below_min v c d m n = omega (arith, ints, clamps, m, n)
 
--- the best value is at most the cutoff of a node that is out
-pub cutoff_holds : (p : Program) (past : List Entry) (id seat : ℕ) → state_of past id ≡ out seat → BestWithin (best_of p past) (cutoff_of p past id)
-cutoff_holds p [] id seat o = cc
-cutoff_holds p (Take t i ∷ past) id seat o =
-    let go : (b : Bool) → cond b (out t) (state_of past id) ≡ out seat → BestWithin (best_of p past) (cond b (value_if (best_of p past)) (cutoff_of p past id)) =
-    λ b. elim b as (λ v. cond v (out t) (state_of past id) ≡ out seat → BestWithin (best_of p past) (cond v (value_if (best_of p past)) (cutoff_of p past id))) [
-      | true ↦ λ _. BestWithin-self (best_of p past)
-      | false ↦ λ h. cutoff_holds p past id seat h
+-- the best value less the gap is at most the cutoff of a node that is out
+pub cutoff_holds : (p : Program) (s : Settings) (past : List Entry) (id seat : ℕ) → state_of past id ≡ out seat → BestWithin s.gap (best_of p past) (cutoff_of p s past id)
+cutoff_holds p s [] id seat o = cc
+cutoff_holds p s (Take t i ∷ past) id seat o =
+    let go : (b : Bool) → cond b (out t) (state_of past id) ≡ out seat → BestWithin s.gap (best_of p past) (cond b (cutoff_for p s past) (cutoff_of p s past id)) =
+    λ b. elim b as (λ v. cond v (out t) (state_of past id) ≡ out seat → BestWithin s.gap (best_of p past) (cond v (cutoff_for p s past) (cutoff_of p s past id))) [
+      | true ↦ λ _. BestWithin-self s.gap (best_of p past)
+      | false ↦ λ h. cutoff_holds p s past id seat h
     ] in
     go (i == id) o
-cutoff_holds p (Back t i ∷ past) id seat o =
+cutoff_holds p s (Back t i ∷ past) id seat o =
     let P : State → Type 0 = λ s. s ≡ out seat → state_of past id ≡ out seat in
     let h : state_of past id ≡ out seat = by_test P (i == id) waiting (state_of past id) (λ _ k. cc) (λ _ k. k) o in
-    cutoff_holds p past id seat h
-cutoff_holds p (Encode t i form ∷ past) id seat o = cutoff_holds p past id seat o
-cutoff_holds p (Free t ids ∷ past) id seat o =
+    cutoff_holds p s past id seat h
+cutoff_holds p s (Encode t i form ∷ past) id seat o = cutoff_holds p s past id seat o
+cutoff_holds p s (Free t ids ∷ past) id seat o =
     let P : State → Type 0 = λ s. s ≡ out seat → state_of past id ≡ out seat in
     let h : state_of past id ≡ out seat = by_test P (is_among id ids) freed (state_of past id) (λ _ k. cc) (λ _ k. k) o in
-    cutoff_holds p past id seat h
-cutoff_holds p (Put t i found low next ∷ past) id seat o =
+    cutoff_holds p s past id seat h
+cutoff_holds p s (Put t i found low next ∷ past) id seat o =
     let P : State → Type 0 = λ s. s ≡ out seat → state_of past id ≡ out seat in
     let h : state_of past id ≡ out seat = by_test P (i == id) (put_state next) (state_of past id) (λ _ k. not_out next k) (λ _ k. k) o in
-    BestWithin-falls p (best_of p past) (cutoff_of p past id) (Put t i found low next) (cutoff_holds p past id seat h)
+    BestWithin-falls p s.gap (best_of p past) (cutoff_of p s past id) (Put t i found low next) (cutoff_holds p s past id seat h)
   where
     not_out : {X : Type 0} (next : Step) → put_state next ≡ out seat → X
     not_out Shut k = cc

@@ -1,6 +1,6 @@
 -- How a search ends.
 use Rattle.std.proofs.Common.{◌≡◌, ℕ, zero, suc, ◌+◌, ◌-◌, ◌*◌, ◌<◌, ◌≤◌, List, [], ◌∷◌, length, refl, ap, sym, ◌∙◌, subst, arith, Bool, true, false, cond, Some, None, Option, inl, inr}
-use Rattle.std.specs.Prelude.{◌&&◌, ◌||◌, filter, nat_lt}
+use Rattle.std.specs.Prelude.{◌&&◌, ◌||◌, filter, nat_lt, pos, ◌-ℤ◌, int_lt}
 use Rattle.std.proofs.lemmas.Bool.{and_parts, cases_lt, true≢false, lt-ltb, le-ltb}
 use Rattle.bl_problem.specs.Program.{Program}
 use Rattle.bl_problem.specs.Points.{own_lows, own_highs, points_in}
@@ -9,12 +9,12 @@ use Rattle.bl_journal.specs.declared.entry.Entry.TheVariants.{Take, Put, Back, E
 use Rattle.bl_journal.specs.declared.settings.Settings.{Settings}
 use Rattle.bl_journal.specs.Births.{nodes_of, node_at}
 use Rattle.bl_journal.specs.Descriptions.{full_of}
-use Rattle.bl_journal.specs.States.{State, waiting, out, split, shut, freed, state_of, is_open, is_live, is_live_in, is_below, best_of, used_of, has_point, Found}
+use Rattle.bl_journal.specs.States.{State, waiting, out, split, shut, freed, state_of, is_open, is_live, is_live_in, is_below, cutoff_for, best_of, used_of, has_point, Found}
 use Rattle.bl_journal.specs.Replies.{take_reply, reply_for, next_of, first_below, preferred, any_below, any_out, waits_live, is_waiting, is_out, ids_of, gives, done, spent}
 use Rattle.bl_journal.specs.Legality.{IsLegalPast}
-use Rattle.bl_journal.specs.Results.{HasNoLive, IsSpent, IsFinal, answer_of, answer_for, final, live_ids, lows_of, share_in, room_of, node_points}
+use Rattle.bl_journal.specs.Results.{HasNoLive, IsSpent, IsFinal, answer_of, answer_for, final, within, optimal, live_ids, lows_of, share_in, room_of, node_points}
 use Rattle.bl_journal.proofs.Living.{first_below_holds, Each, Each-ids}
-use Rattle.bl_journal.proofs.Leaves.{is_waiting-is}
+use Rattle.bl_journal.proofs.Leaves.{by_test as by_choice, is_waiting-is}
 use Rattle.bl_journal.proofs.Sums.{total, sum_ids, total-at}
 use Rattle.bl_journal.proofs.Budget.{has_point-points, within_budget}
 
@@ -73,13 +73,13 @@ reply_gives None true false i e = cc
 reply_gives (Some j) true someone i e = refl
 reply_gives (Some j) false someone i e = cc
 
-pub done_ends : (p : Program) (s : Settings) (past : List Entry) → take_reply p s past ≡ done → HasNoLive p past
+pub done_ends : (p : Program) (s : Settings) (past : List Entry) → take_reply p s past ≡ done → HasNoLive p s past
 unfolding take_reply
 done_ends p s past e = λ id born.
     let r = reply_done (next_of p s past) (nat_lt (used_of past) s.nodes) (any_out p past) e in
-    let w : waits_live p past id ≡ false = first_below_none _ (waits_live p past) (length (nodes_of p past)) id r.0 born in
+    let w : waits_live p s past id ≡ false = first_below_none _ (waits_live p s past) (length (nodes_of p past)) id r.0 born in
     let o : is_out (state_of past id) ≡ false = any_below_none (λ k. is_out (state_of past k)) (length (nodes_of p past)) id r.1 born in
-    by_state (state_of past id) (is_open p past id) w o
+    by_state (state_of past id) (is_open p s past id) w o
   where
     by_state : (t : State) (b : Bool) → (is_waiting t && b) ≡ false → is_out t ≡ false → is_live_in t b ≡ false
     by_state waiting b w o = w
@@ -96,15 +96,15 @@ filter_none test n (i ∷ ids) a h = by_test (test i) (h i a.0) (filter_none tes
     by_test true e ih = absurd (true≢false e)
     by_test false e ih = ih
 
-pub done_is_final : (p : Program) (s : Settings) (past : List Entry) → take_reply p s past ≡ done → IsFinal (answer_of p past)
+pub done_is_final : (p : Program) (s : Settings) (past : List Entry) → take_reply p s past ≡ done → IsFinal (answer_of p s past)
 unfolding answer_of
 done_is_final p s past e =
-    let none : live_ids p past ≡ [] = filter_none (is_live p past) (length (nodes_of p past)) (ids_of p past) (Each-ids (length (nodes_of p past))) (done_ends p s past e) in
-    subst (λ (ids : List ℕ). IsFinal (answer_for (best_of p past) (lows_of p past ids))) (sym none) (by_best (best_of p past))
+    let none : live_ids p s past ≡ [] = filter_none (is_live p s past) (length (nodes_of p past)) (ids_of p past) (Each-ids (length (nodes_of p past))) (done_ends p s past e) in
+    subst (λ (ids : List ℕ). IsFinal (answer_for s.gap (best_of p past) (lows_of p past ids))) (sym none) (by_best (best_of p past))
   where
-    by_best : (o : Option Found) → IsFinal (final o)
+    by_best : (o : Option Found) → IsFinal (final s.gap o)
     by_best None = tt
-    by_best (Some f) = tt
+    by_best (Some f) = by_choice IsFinal (int_lt (pos 0) s.gap) (within f (f.value -ℤ s.gap)) (optimal f) (λ _. tt) (λ _. tt)
 
 -- no more nodes are used than may be
 pub used_within : (p : Program) (s : Settings) (past : List Entry) → IsLegalPast p s past → used_of past ≤ s.nodes
@@ -125,7 +125,7 @@ pub spent_ends : (p : Program) (s : Settings) (past : List Entry) → IsLegalPas
 unfolding take_reply
 spent_ends p s past l e =
     let r = reply_spent (next_of p s past) (nat_lt (used_of past) s.nodes) (any_out p past) e in
-    let f = first_below_holds _ (waits_live p past) (length (nodes_of p past)) r.0 r.1 in
+    let f = first_below_holds _ (waits_live p s past) (length (nodes_of p past)) r.0 r.1 in
     let within : used_of past ≤ s.nodes = used_within p s past l in
     record {
       all_used =
@@ -142,15 +142,15 @@ spent_ends p s past l e =
 pub spent_is_short : (p : Program) (s : Settings) (past : List Entry) → IsLegalPast p s past → take_reply p s past ≡ spent → s.nodes + 2 ≤ 2 * points_in (own_lows p) (own_highs p)
 spent_is_short p s past l e =
     let sp = spent_ends p s past l e in
-    let parts = and_parts (is_waiting (state_of past sp.id)) (is_open p past sp.id) sp.waits in
+    let parts = and_parts (is_waiting (state_of past sp.id)) (is_open p s past sp.id) sp.waits in
     let st : state_of past sp.id ≡ waiting = is_waiting-is (state_of past sp.id) parts.0 in
     let some : 0 < node_points p past sp.id =
-    has_point-points (full_of p past sp.id).lows (full_of p past sp.id).highs (and_parts (has_point (full_of p past sp.id).lows (full_of p past sp.id).highs) (is_below (node_at p past sp.id).low (best_of p past)) parts.1).0 in
-    let share : ℕ → ℕ = λ id. share_in (state_of past id) (is_open p past id) (node_points p past id) in
+    has_point-points (full_of p past sp.id).lows (full_of p past sp.id).highs (and_parts (has_point (full_of p past sp.id).lows (full_of p past sp.id).highs) (is_below (node_at p past sp.id).low (cutoff_for p s past)) parts.1).0 in
+    let share : ℕ → ℕ = λ id. share_in (state_of past id) (is_open p s past id) (node_points p past id) in
     let mine : share sp.id ≡ 2 * node_points p past sp.id - 1 =
-    ap (λ (t : State). share_in t (is_open p past sp.id) (node_points p past sp.id)) st ∙ ap (λ (b : Bool). share_in waiting b (node_points p past sp.id)) parts.1 in
+    ap (λ (t : State). share_in t (is_open p s past sp.id) (node_points p past sp.id)) st ∙ ap (λ (b : Bool). share_in waiting b (node_points p past sp.id)) parts.1 in
     let below : share sp.id ≤ total share (length (nodes_of p past)) = total-at share (length (nodes_of p past)) sp.id sp.born in
-    let room : room_of p past ≡ total share (length (nodes_of p past)) = sum_ids share (length (nodes_of p past)) in
-    let within : used_of past + room_of p past ≤ 2 * points_in (own_lows p) (own_highs p) - 1 = within_budget p s past l in
+    let room : room_of p s past ≡ total share (length (nodes_of p past)) = sum_ids share (length (nodes_of p past)) in
+    let within : used_of past + room_of p s past ≤ 2 * points_in (own_lows p) (own_highs p) - 1 = within_budget p s past l in
     let used : used_of past ≡ s.nodes = sp.all_used in
     omega (arith, some, mine, below, room, within, used)

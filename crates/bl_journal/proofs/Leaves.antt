@@ -32,9 +32,9 @@ is_waiting-is shut e = cc
 is_waiting-is freed e = cc
 
 -- a node that is freed was born, and it or its state was over
-pub record WasOver (p : Program) (past : List Entry) (id : ℕ) : Type 0 where
+pub record WasOver (p : Program) (s : Settings) (past : List Entry) (id : ℕ) : Type 0 where
   pub born : id < length (nodes_of p past)
-  pub over : is_over (state_of past id) (is_open p past id) ≡ true
+  pub over : is_over (state_of past id) (is_open p s past id) ≡ true
 
 -- parents are born before their children
 abbrev pub ParentBorn : Program → List Entry → ℕ → Type 0
@@ -46,35 +46,35 @@ over_before id seat ids s b e =
     by_test P (is_among id ids) freed s (λ _ h. let f : true ≡ false = sym h in absurd (true≢false f)) (λ _ h. h) e
 
 climbs_over : (p : Program) (s : Settings) (past : List Entry) (parents : (k : ℕ) → k < length (nodes_of p past) → ParentBorn p past k)
-    (id : ℕ) (ids : List ℕ) → id < length (nodes_of p past) → Climbs p s past id ids → Each (λ q. WasOver p past q) ids
+    (id : ℕ) (ids : List ℕ) → id < length (nodes_of p past) → Climbs p s past id ids → Each (λ q. WasOver p s past q) ids
 climbs_over p s past parents id [] born c = tt
 climbs_over p s past parents id (q ∷ ids) born c =
     let below : q < id = let h = parents id born in rw c.0 at h in
     let here : q < length (nodes_of p past) = omega arith in
-    let over = (and_parts (is_over (state_of past q) (is_open p past q)) (list_all (lets_go p s past q) (ids_of p past)) c.1).0 in
+    let over = (and_parts (is_over (state_of past q) (is_open p s past q)) (list_all (lets_go p s past q) (ids_of p past)) c.1).0 in
     let rest = climbs_over p s (Free 0 (q ∷ []) ∷ past) parents q ids here c.2 in
     (record { born = here; over = over }, weaker ids rest)
   where
-    weaker : (xs : List ℕ) → Each (λ k. WasOver p (Free 0 (q ∷ []) ∷ past) k) xs → Each (λ k. WasOver p past k) xs
+    weaker : (xs : List ℕ) → Each (λ k. WasOver p s (Free 0 (q ∷ []) ∷ past) k) xs → Each (λ k. WasOver p s past k) xs
     weaker [] a = tt
     weaker (k ∷ xs) a =
-        (record { born = a.0.born; over = over_before k 0 (q ∷ []) (state_of past k) (is_open p past k) a.0.over }, weaker xs a.1)
+        (record { born = a.0.born; over = over_before k 0 (q ∷ []) (state_of past k) (is_open p s past k) a.0.over }, weaker xs a.1)
 
 pub chain_over : (p : Program) (s : Settings) (past : List Entry) (parents : (k : ℕ) → k < length (nodes_of p past) → ParentBorn p past k)
-    (ids : List ℕ) → IsFreeChain p s past ids → Each (λ q. WasOver p past q) ids
+    (ids : List ℕ) → IsFreeChain p s past ids → Each (λ q. WasOver p s past q) ids
 chain_over p s past parents [] c = absurd c
 chain_over p s past parents (id ∷ ids) c =
     let n : ℕ = length (nodes_of p past) in
     let P : ℕ → Type 0 = λ k. k < n in
     let f : (id < n) × (is_freeable p s past id ≡ true) = find_holds (is_freeable p s past) P (ids_of p past) (Each-ids n) id c.0 in
-    let over = (and_parts (is_over (state_of past id) (is_open p past id)) (list_all (lets_go p s past id) (ids_of p past)) f.1).0 in
+    let over = (and_parts (is_over (state_of past id) (is_open p s past id)) (list_all (lets_go p s past id) (ids_of p past)) f.1).0 in
     let rest = climbs_over p s (Free 0 (id ∷ []) ∷ past) parents id ids f.0 c.1 in
     (record { born = f.0; over = over }, weaker ids rest)
   where
-    weaker : (xs : List ℕ) → Each (λ k. WasOver p (Free 0 (id ∷ []) ∷ past) k) xs → Each (λ k. WasOver p past k) xs
+    weaker : (xs : List ℕ) → Each (λ k. WasOver p s (Free 0 (id ∷ []) ∷ past) k) xs → Each (λ k. WasOver p s past k) xs
     weaker [] a = tt
     weaker (k ∷ xs) a =
-        (record { born = a.0.born; over = over_before k 0 (id ∷ []) (state_of past k) (is_open p past k) a.0.over }, weaker xs a.1)
+        (record { born = a.0.born; over = over_before k 0 (id ∷ []) (state_of past k) (is_open p s past k) a.0.over }, weaker xs a.1)
 
 pub Each-among : (P : ℕ → Type 0) (ids : List ℕ) (q : ℕ) → Each P ids → is_among q ids ≡ true → P q
 Each-among P [] q a e = let f : true ≡ false = sym e in absurd (true≢false f)
@@ -147,7 +147,7 @@ shape_unborn p s past (Free seat ids) sh a id h =
     let over = chain_over p s past sh.parents ids a in
     let P : State → Type 0 = λ t. t ≡ waiting in
     by_test P (is_among id ids) freed (state_of past id)
-    (λ m. let w : WasOver p past id = Each-among (λ q. WasOver p past q) ids id over m in
+    (λ m. let w : WasOver p s past id = Each-among (λ q. WasOver p s past q) ids id over m in
     let b : id < length (nodes_of p past) = w.born in absurd (omega (arith, b, h)))
     (λ _. sh.unborn id h)
 shape_unborn p s past (Put seat i found low next) sh a id h =

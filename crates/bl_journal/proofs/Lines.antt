@@ -80,7 +80,7 @@ child_part p path branch h =
     subst (λ (l : List Cut). IsPartThenFresh (λ (c : Cut). c.id) (full_along p path).cuts l) (sym (ap (λ (d : Desc Cut). d.cuts) (changed_along-push (root_desc p) path branch))) h
 
 lines_split : (p : Program) (s : Settings) (past : List Entry) (seat i : ℕ) (found : Option (List ℤ)) (low : ℤ) (common : Change Cut) (column : ℕ) (at : ℤ)
-    → IsLegalPast p s past → MayPut p past seat i found low (Split common column at)
+    → IsLegalPast p s past → MayPut p s past seat i found low (Split common column at)
     → ((id : ℕ) → id < length (nodes_of p past) → HasLine p (nodes_of p past) id (node_at p past id))
     → (id : ℕ) → id < length (nodes_of p (Put seat i found low (Split common column at) ∷ past))
     → HasLine p (nodes_of p (Put seat i found low (Split common column at) ∷ past)) id (node_at p (Put seat i found low (Split common column at) ∷ past) id)

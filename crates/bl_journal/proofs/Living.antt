@@ -71,14 +71,14 @@ reply_node (Some j) true a i e = cc
 reply_node (Some j) false a i e = cc
 
 -- the node that a take gives is born, waiting and open
-pub record Given (p : Program) (past : List Entry) (i : ℕ) : Type 0 where
+pub record Given (p : Program) (s : Settings) (past : List Entry) (i : ℕ) : Type 0 where
   pub born : i < length (nodes_of p past)
   pub waits : is_waiting (state_of past i) ≡ true
-  pub open_node : is_open p past i ≡ true
+  pub open_node : is_open p s past i ≡ true
 
-pub take_gives : (p : Program) (s : Settings) (past : List Entry) (i : ℕ) → take_reply p s past ≡ gives i → Given p past i
+pub take_gives : (p : Program) (s : Settings) (past : List Entry) (i : ℕ) → take_reply p s past ≡ gives i → Given p s past i
 unfolding take_reply
 take_gives p s past i e =
-    let q = first_below_holds _ (waits_live p past) (length (nodes_of p past)) i (reply_node (next_of p s past) _ _ i e) in
-    let r = and_parts (is_waiting (state_of past i)) (is_open p past i) q.1 in
+    let q = first_below_holds _ (waits_live p s past) (length (nodes_of p past)) i (reply_node (next_of p s past) _ _ i e) in
+    let r = and_parts (is_waiting (state_of past i)) (is_open p s past i) q.1 in
     record { born = q.0; waits = r.0; open_node = r.1 }

@@ -1,6 +1,6 @@
 -- What an answer means in a legal history.
-use Rattle.std.proofs.Common.{◌≡◌, ℕ, zero, suc, ◌<◌, List, [], ◌∷◌, ◌++◌, length, refl, ap, sym, ◌∙◌, subst, arith, Bool, true, Some, None, Option, ◌⊎◌, inl, inr}
-use Rattle.std.specs.Prelude.{filter, map, fold, ℤ, ◌≤ℤ◌, int_lt}
+use Rattle.std.proofs.Common.{◌≡◌, ℕ, zero, suc, ◌<◌, List, [], ◌∷◌, ◌++◌, length, refl, ap, sym, ◌∙◌, subst, arith, Bool, true, Some, None, Option, ◌⊎◌, inl, inr, false}
+use Rattle.std.specs.Prelude.{filter, map, fold, ℤ, pos, ◌-ℤ◌, ◌≤ℤ◌, int_lt}
 use Rattle.std.specs.Int.{int_min}
 use Rattle.std.proofs.lemmas.Int.{ints, clamps}
 use Rattle.std.proofs.lemmas.Bool.{cases_Bool, true≢false, cases_lt}
@@ -10,10 +10,10 @@ use Rattle.bl_journal.specs.declared.entry.Entry.{Entry}
 use Rattle.bl_journal.specs.declared.entry.Entry.TheVariants.{Take, Put, Back, Encode, Free}
 use Rattle.bl_journal.specs.declared.settings.Settings.{Settings}
 use Rattle.bl_journal.specs.Births.{nodes_of, node_at}
-use Rattle.bl_journal.specs.States.{Found, best_of, best_with, is_below, is_live}
+use Rattle.bl_journal.specs.States.{Found, best_of, best_with, value_less, is_below, is_live}
 use Rattle.bl_journal.specs.Replies.{ids_below, ids_of}
 use Rattle.bl_journal.specs.Legality.{IsLegalPast}
-use Rattle.bl_journal.specs.Results.{IsTrueFor, IsGood, BestGood, live_ids, answer_for, answer_of}
+use Rattle.bl_journal.specs.Results.{IsTrueFor, IsGood, BestGood, within, optimal, live_ids, answer_for, answer_of}
 use Rattle.bl_journal.proofs.Leaves.{by_test}
 use Rattle.bl_journal.proofs.Coverage.{lies_somewhere}
 
@@ -75,21 +75,27 @@ fold_min-each f a i (k ∷ ids) (inl e) =
     subst (λ (m : ℕ). fold int_min (int_min a (f k)) (map f ids) ≤ℤ f m) e g
 fold_min-each f a i (k ∷ ids) (inr h) = fold_min-each f (int_min a (f k)) i ids h
 
--- each point below the best value has an id among these, whose low number is at most its value
-abbrev Covers : Program → Option Found → (ℕ → ℤ) → List ℕ → Type 0
-Covers p best f ids = (x : List ℤ) → IsFeasible p x → is_below (value_of p x) best ≡ true → (i : ℕ) × Has i ids × (f i ≤ℤ value_of p x)
+-- each point below the cutoff has an id among these, whose low number is at most its value
+abbrev Covers : Program → Option ℤ → (ℕ → ℤ) → List ℕ → Type 0
+Covers p cutoff f ids = (x : List ℤ) → IsFeasible p x → is_below (value_of p x) cutoff ≡ true → (i : ℕ) × Has i ids × (f i ≤ℤ value_of p x)
 
-means_from : (p : Program) (best : Option Found) (f : ℕ → ℤ) (ids : List ℕ) → BestGood p best → Covers p best f ids → IsTrueFor p (answer_for best (map f ids))
-means_from p None f [] good covers = λ x h. (covers x h refl).1
-means_from p (Some b) f [] good covers = (good.feasible, good.value, λ x h. not_below x h)
+means_from : (p : Program) (gap : ℤ) (best : Option Found) (f : ℕ → ℤ) (ids : List ℕ) → pos 0 ≤ℤ gap → BestGood p best → Covers p (value_less gap best) f ids
+    → IsTrueFor p (answer_for gap best (map f ids))
+means_from p gap None f [] some good covers = λ x h. (covers x h refl).1
+means_from p gap (Some b) f [] some good covers =
+    by_test (IsTrueFor p) (int_lt (pos 0) gap) (within b (b.value -ℤ gap)) (optimal b) (λ _. (good.feasible, good.value, not_below))
+    (λ none. (good.feasible, good.value, λ x h. no_gap x none (not_below x h)))
   where
-    not_below : (x : List ℤ) → IsFeasible p x → b.value ≤ℤ value_of p x
+    no_gap : (x : List ℤ) → int_lt (pos 0) gap ≡ false → (b.value -ℤ gap) ≤ℤ value_of p x → b.value ≤ℤ value_of p x
+    no_gap x none h = grind (arith, ints, none, some, h)
+
+    not_below : (x : List ℤ) → IsFeasible p x → (b.value -ℤ gap) ≤ℤ value_of p x
     not_below x h =
-        elim (cases_Bool (int_lt (value_of p x) b.value)) [
+        elim (cases_Bool (int_lt (value_of p x) (b.value -ℤ gap))) [
           | inl t ↦ absurd ((covers x h t).1)
           | inr t ↦ grind (arith, ints, t)
         ]
-means_from p None f (k ∷ ids) good covers = (tt, λ x h. let c = covers x h refl in at_least x c.0 c.1 c.2)
+means_from p gap None f (k ∷ ids) some good covers = (tt, λ x h. let c = covers x h refl in at_least x c.0 c.1 c.2)
   where
     at_least : (x : List ℤ) (i : ℕ) → Has i (k ∷ ids) → f i ≤ℤ value_of p x → fold int_min (f k) (map f ids) ≤ℤ value_of p x
     at_least x i (inl e) low =
@@ -98,7 +104,7 @@ means_from p None f (k ∷ ids) good covers = (tt, λ x h. let c = covers x h re
         omega (arith, ints, s, low')
     at_least x i (inr h) low =
         let s : fold int_min (f k) (map f ids) ≤ℤ f i = fold_min-each f (f k) i ids h in omega (arith, ints, s, low)
-means_from p (Some b) f (k ∷ ids) good covers = (good, λ x h. all x h)
+means_from p gap (Some b) f (k ∷ ids) some good covers = (good, λ x h. all x h)
   where
     at_least : (x : List ℤ) (i : ℕ) → Has i (k ∷ ids) → f i ≤ℤ value_of p x → fold int_min (f k) (map f ids) ≤ℤ value_of p x
     at_least x i (inl e) low =
@@ -108,17 +114,17 @@ means_from p (Some b) f (k ∷ ids) good covers = (good, λ x h. all x h)
     at_least x i (inr h) low =
         let s : fold int_min (f k) (map f ids) ≤ℤ f i = fold_min-each f (f k) i ids h in omega (arith, ints, s, low)
 
-    all : (x : List ℤ) → IsFeasible p x → int_min b.value (fold int_min (f k) (map f ids)) ≤ℤ value_of p x
+    all : (x : List ℤ) → IsFeasible p x → int_min (b.value -ℤ gap) (fold int_min (f k) (map f ids)) ≤ℤ value_of p x
     all x h =
-        elim (cases_Bool (int_lt (value_of p x) b.value)) [
+        elim (cases_Bool (int_lt (value_of p x) (b.value -ℤ gap))) [
           | inl t ↦ let c = covers x h t in
               let s : fold int_min (f k) (map f ids) ≤ℤ value_of p x = at_least x c.0 c.1 c.2 in omega (arith, ints, clamps, s)
-          | inr t ↦ let s : b.value ≤ℤ value_of p x = grind (arith, ints, t) in omega (arith, ints, clamps, s)
+          | inr t ↦ let s : (b.value -ℤ gap) ≤ℤ value_of p x = grind (arith, ints, t) in omega (arith, ints, clamps, s)
         ]
 
-pub answer_means : (p : Program) (s : Settings) (past : List Entry) → IsLegalPast p s past → IsTrueFor p (answer_of p past)
+pub answer_means : (p : Program) (s : Settings) (past : List Entry) → pos 0 ≤ℤ s.gap → IsLegalPast p s past → IsTrueFor p (answer_of p s past)
 unfolding answer_of
-answer_means p s past l =
-    means_from p (best_of p past) (λ id. (node_at p past id).low) (live_ids p past) (best_good p s past l)
-    (λ x f b. let c = lies_somewhere p s past l x f b in
-    (c.0, Has-filter (is_live p past) c.0 (ids_of p past) (Has-ids (length (nodes_of p past)) c.0 c.1.born) c.1.live, c.1.low))
+answer_means p s past g l =
+    means_from p s.gap (best_of p past) (λ id. (node_at p past id).low) (live_ids p s past) g (best_good p s past l)
+    (λ x f b. let c = lies_somewhere p s past g l x f b in
+    (c.0, Has-filter (is_live p s past) c.0 (ids_of p past) (Has-ids (length (nodes_of p past)) c.0 c.1.born) c.1.live, c.1.low))

@@ -1,8 +1,7 @@
 -- The ids of a node's cuts are among those that puts have added.
-use Rattle.std.proofs.Common.{◌≡◌, ℕ, zero, suc, ◌<◌, List, [], ◌∷◌, ◌++◌, length, refl, ap, sym, ◌∙◌, subst, arith, Option, map}
-use Rattle.std.specs.Prelude.{ℤ}
+use Rattle.std.proofs.Common.{◌≡◌, ℕ, zero, suc, ◌<◌, List, [], ◌∷◌, ◌++◌, length, refl, ap, sym, ◌∙◌, subst, arith, map}
 use Rattle.bl_mods.specs.declared.mods.ItemId.{ItemId}
-use Rattle.bl_mods.specs.Mods.{relisted, kept_from}
+use Rattle.bl_mods.specs.Mods.{relisted}
 use Rattle.bl_problem.specs.Program.{Program}
 use Rattle.bl_problem.specs.declared.cut.Cut.{Cut}
 use Rattle.bl_desc.specs.declared.desc.Desc.{Desc}

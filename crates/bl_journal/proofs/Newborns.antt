@@ -61,7 +61,7 @@ stored_newborn p s past e id k n w =
         ∙ ap (λ (d : Desc Cut). Relative (difference (λ (c : Cut). c.id) d (full_of p (e ∷ past) k))) same
 
 pub left_stored : (p : Program) (s : Settings) (past : List Entry) (seat id : ℕ) (found : Option (List ℤ)) (low : ℤ) (common : Change Cut) (column : ℕ) (at : ℤ)
-    → IsLegalPast p s past → MayPut p past seat id found low (Split common column at)
+    → IsLegalPast p s past → MayPut p s past seat id found low (Split common column at)
     → stored_of p s (Put seat id found low (Split common column at) ∷ past) (length (nodes_of p past))
     ≡ piece_below (full_of p past id) (form_at_birth s.span ((node_at p past id).depth + 1)) (full_of p (Put seat id found low (Split common column at) ∷ past) (length (nodes_of p past)))
 left_stored p s past seat id found low common column at legal may =
@@ -75,7 +75,7 @@ left_stored p s past seat id found low common column at legal may =
     })
 
 pub right_stored : (p : Program) (s : Settings) (past : List Entry) (seat id : ℕ) (found : Option (List ℤ)) (low : ℤ) (common : Change Cut) (column : ℕ) (at : ℤ)
-    → IsLegalPast p s past → MayPut p past seat id found low (Split common column at)
+    → IsLegalPast p s past → MayPut p s past seat id found low (Split common column at)
     → stored_of p s (Put seat id found low (Split common column at) ∷ past) (length (nodes_of p past) + 1)
     ≡ piece_below (full_of p past id) (form_at_birth s.span ((node_at p past id).depth + 1)) (full_of p (Put seat id found low (Split common column at) ∷ past) (length (nodes_of p past) + 1))
 right_stored p s past seat id found low common column at legal may =

@@ -1,5 +1,6 @@
 -- Small histories, computed from the definitions.
-use Rattle.std.proofs.Common.{◌≡◌, pos, ℤ, ◌≤ℤ◌, List, [], ◌∷◌, Some, None, Bool, true, false, refl, arith}
+use Rattle.std.proofs.Common.{◌≡◌, pos, ℤ, ◌≤ℤ◌, List, [], ◌∷◌, Some, None, Option, refl, arith}
+use Rattle.std.specs.Prelude.{IfSome}
 use Rattle.std.proofs.lemmas.Int.{ints}
 use Rattle.std.proofs.lemmas.List.Elements.{All-cons, All-get_or, All-nil}
 use Rattle.bl_problem.specs.Points.{IsFeasible, value_of}
@@ -10,15 +11,16 @@ use Rattle.bl_desc.specs.declared.desc.Piece.TheVariants.{Explicit as ExplicitPi
 use Rattle.bl_journal.specs.declared.entry.Entry.{Entry}
 use Rattle.bl_journal.specs.declared.entry.Entry.TheVariants.{Take, Put, Back, Encode, Free}
 use Rattle.bl_journal.specs.declared.entry.Step.TheVariants.{Split}
-use Rattle.bl_journal.specs.declared.settings.Order.TheVariants.{Best, Depth}
-use Rattle.bl_journal.specs.Covering.{covering, row, with_span, high_four, best_if, low_if}
+use Rattle.bl_journal.specs.declared.settings.Settings.{Settings}
+use Rattle.bl_pool.specs.declared.key.Order.TheVariants.{Best, Depth}
+use Rattle.bl_journal.specs.Covering.{covering, row, with_span, with_gap, high_four, point_if, low_if, IsRange}
 use Rattle.bl_journal.specs.Descriptions.{full_of}
 use Rattle.bl_journal.specs.States.{used_of}
 use Rattle.bl_journal.specs.Replies.{take_reply, gives, idle, done, spent}
 use Rattle.bl_journal.specs.Pieces.{stored_of, chain_of, held_of}
 use Rattle.bl_journal.specs.Freeing.{first_freeable, IsFreeChain}
 use Rattle.bl_journal.specs.Pieces.{rebuilt}
-use Rattle.bl_journal.specs.Results.{answer_of, optimal, room_of}
+use Rattle.bl_journal.specs.Results.{answer_of, optimal, within, room_of}
 use Rattle.bl_journal.specs.Soundness.{IsSound}
 use Rattle.bl_journal.specs.Legality.{MayPut}
 use Rattle.bl_journal.proofs.Nothing.{nothing_fits}
@@ -30,9 +32,9 @@ root_split = Put 0 0 None (pos 0) (Split nothing 0 (pos 4))
 abbrev pub after_put : List Entry
 after_put = root_split ∷ Take 0 0 ∷ []
 
-pub first_take : take_reply covering (with_span 8) [] ≡ gives 0
+pub first_take : (gap : ℤ) → take_reply covering (with_gap gap) [] ≡ gives 0
 unfolding take_reply
-first_take = refl
+first_take gap = refl
 
 take_again : take_reply covering (with_span 8) after_put ≡ gives 1
 unfolding take_reply
@@ -92,14 +94,30 @@ held_none = refl
 no_more : first_freeable covering (with_span 8) all_freed ≡ None
 no_more = refl
 
-answer_is : answer_of covering all_freed ≡ optimal (record { value = pos 7; point = pos 2 ∷ pos 1 ∷ [] })
+answer_is : answer_of covering (with_span 8) all_freed ≡ optimal (record { value = pos 7; point = pos 2 ∷ pos 1 ∷ [] })
 unfolding answer_of
 answer_is = refl
 
-room_at_start : room_of covering [] ≡ 241
+-- a put with a point of value 10
+abbrev pub with_ten : List Entry
+with_ten = Put 0 0 (Some (pos 2 ∷ pos 2 ∷ [])) (pos 7) (Split nothing 0 (pos 4)) ∷ Take 0 0 ∷ []
+
+done_within_three : take_reply covering (with_gap (pos 3)) with_ten ≡ done
+unfolding take_reply
+done_within_three = refl
+
+within_three : answer_of covering (with_gap (pos 3)) with_ten ≡ within (record { value = pos 10; point = pos 2 ∷ pos 2 ∷ [] }) (pos 7)
+unfolding answer_of
+within_three = refl
+
+one_at_two : take_reply covering (with_gap (pos 2)) with_ten ≡ gives 1
+unfolding take_reply
+one_at_two = refl
+
+room_at_start : room_of covering (with_span 8) [] ≡ 241
 room_at_start = refl
 
-spent_after_put : take_reply covering (record { nodes = 1; span = 1; order = Best }) after_put ≡ spent
+spent_after_put : take_reply covering (record { nodes = 1; span = 1; order = Best; gap = pos 0 }) after_put ≡ spent
 unfolding take_reply
 spent_after_put = refl
 
@@ -117,7 +135,7 @@ one_again = refl
 used_three : used_of two_out ≡ 3
 used_three = refl
 
-depth_first : take_reply covering (record { nodes = 100; span = 8; order = Depth }) after_put ≡ gives 1
+depth_first : take_reply covering (record { nodes = 100; span = 8; order = Depth; gap = pos 0 }) after_put ≡ gives 1
 unfolding take_reply
 depth_first = refl
 
@@ -139,22 +157,25 @@ value_at_least (a ∷ b ∷ []) f =
     omega (arith, ints, met.low)
 value_at_least (a ∷ b ∷ c ∷ x) f = absurd f.box.2.2
 
-low_holds : (found : Bool) (x : List ℤ) → IsFeasible covering x → low_if found ≤ℤ value_of covering x
-low_holds true x f = value_at_least x f
-low_holds false x f = omega (arith, ints, value_at_least x f)
+low_holds : (found : Option ℤ) (x : List ℤ) → IsFeasible covering x → low_if found ≤ℤ value_of covering x
+low_holds (Some y) x f = value_at_least x f
+low_holds None x f = omega (arith, ints, value_at_least x f)
 
-point_feasible : IsFeasible covering (pos 2 ∷ pos 1 ∷ [])
-point_feasible =
+point_feasible : (y : ℤ) → IsRange y → IsFeasible covering (pos 2 ∷ y ∷ [])
+point_feasible y r =
+    let low : pos 1 ≤ℤ y = r.0 in
+    let high : y ≤ℤ pos 10 = r.1 in
     record {
-      box = (omega (arith, ints), omega (arith, ints), (omega (arith, ints), omega (arith, ints), tt));
-      rows = All-cons (MeetsRow (pos 2 ∷ pos 1 ∷ [])) row [] (record { low = omega (arith, ints); high = tt }) (All-nil (MeetsRow (pos 2 ∷ pos 1 ∷ [])));
+      box = (omega (arith, ints), omega (arith, ints), (omega (arith, ints, low), omega (arith, ints, high), tt));
+      rows = All-cons (MeetsRow (pos 2 ∷ y ∷ [])) row [] (record { low = omega (arith, ints, low); high = tt }) (All-nil (MeetsRow (pos 2 ∷ y ∷ [])));
     }
 
-split_sound : (found : Bool) → IsSound covering (full_of covering root_taken 0) None (best_if found) (low_if found) (Split nothing 0 (pos 4))
-split_sound true =
+split_sound : (found : Option ℤ) → IfSome found IsRange → IsSound covering (full_of covering root_taken 0) None (point_if found) (low_if found) (Split nothing 0 (pos 4))
+split_sound (Some y) r =
+    let feasible = point_feasible y r in
     record {
-      found_ok = (point_feasible, point_feasible.box);
-      low_ok = λ x q. low_holds true x q.feasible;
+      found_ok = (feasible, feasible.box);
+      low_ok = λ x q. low_holds (Some y) x q.feasible;
       next_ok = record {
         common_fits = nothing_fits (full_of covering root_taken 0) (λ i j a b h k. absurd (omega (arith, h))) (omega arith);
         meets = λ x q. tt;
@@ -165,10 +186,10 @@ split_sound true =
         below_high = omega (arith, ints);
       };
     }
-split_sound false =
+split_sound None r =
     record {
       found_ok = tt;
-      low_ok = λ x q. low_holds false x q.feasible;
+      low_ok = λ x q. low_holds None x q.feasible;
       next_ok = record {
         common_fits = nothing_fits (full_of covering root_taken 0) (λ i j a b h k. absurd (omega (arith, h))) (omega arith);
         meets = λ x q. tt;
@@ -180,12 +201,12 @@ split_sound false =
       };
     }
 
--- the root may be split so, with the optimal point or without one
-pub split_may : (found : Bool) → MayPut covering root_taken 0 0 (best_if found) (low_if found) (Split nothing 0 (pos 4))
-split_may found =
+-- the root may be split so, with a point or without one
+pub split_may : (s : Settings) (found : Option ℤ) → IfSome found IsRange → MayPut covering s root_taken 0 0 (point_if found) (low_if found) (Split nothing 0 (pos 4))
+split_may s found r =
     record {
       is_out = refl;
-      sound = split_sound found;
+      sound = split_sound found r;
       few_cuts = omega arith;
       new_ids = λ k e i. absurd (omega (arith, i));
     }

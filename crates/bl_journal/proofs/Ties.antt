@@ -94,7 +94,7 @@ list_all-has test (x ∷ xs) c a h =
 freeable_children : (p : Program) (s : Settings) (past : List Entry) (q c : ℕ) → is_freeable p s past q ≡ true → c < length (nodes_of p past) → (node_at p past c).parent ≡ Some q
     → form_of p s past c ≡ Relative → is_freed (state_of past c) ≡ true
 freeable_children p s past q c f born parent rel =
-    let parts = and_parts (is_over (state_of past q) (is_open p past q)) (list_all (lets_go p s past q) (ids_of p past)) f in
+    let parts = and_parts (is_over (state_of past q) (is_open p s past q)) (list_all (lets_go p s past q) (ids_of p past)) f in
     let go : lets_go p s past q c ≡ true = list_all-has (lets_go p s past q) (ids_of p past) c parts.1 (Has-ids (length (nodes_of p past)) c born) in
     let is : is_parent (node_at p past c).parent q ≡ true = ap (λ o. is_parent o q) parent ∙ eq-eqb q q refl in
     let ex : is_explicit (form_of p s past c) ≡ false = ap is_explicit rel in
@@ -158,7 +158,7 @@ tied_free p s past seat ids id ch born ih u f =
         ])
         (λ _. h)
 
-tied_put : (p : Program) (s : Settings) (past : List Entry) (seat i : ℕ) (found : Option (List ℤ)) (low : ℤ) (next : Step) (id : ℕ) → MayPut p past seat i found low next
+tied_put : (p : Program) (s : Settings) (past : List Entry) (seat i : ℕ) (found : Option (List ℤ)) (low : ℤ) (next : Step) (id : ℕ) → MayPut p s past seat i found low next
     → node_at p (Put seat i found low next ∷ past) id ≡ node_at p past id → Tied p s past id → Tied p s (Put seat i found low next ∷ past) id
 tied_put p s past seat i found low next id may node ih u f =
     let before : state_of past id ≢ freed = unfreed_before p s past (Put seat i found low next) may id u in
@@ -169,7 +169,7 @@ tied_put p s past seat i found low next id may node ih u f =
     (λ q k. by_test (λ (t : State). t ≢ freed) (i == q) (put_state next) (state_of past q) (λ _. put_unfreed next) (λ _. k)) h'
 
 tied_split : (p : Program) (s : Settings) (past : List Entry) (seat i : ℕ) (found : Option (List ℤ)) (low : ℤ) (common : Change Cut) (column : ℕ) (at : ℤ) (id : ℕ)
-    → MayPut p past seat i found low (Split common column at) → (id < length (nodes_of p past) → Tied p s past id)
+    → MayPut p s past seat i found low (Split common column at) → (id < length (nodes_of p past) → Tied p s past id)
     → id < length (nodes_of p (Put seat i found low (Split common column at) ∷ past)) → Tied p s (Put seat i found low (Split common column at) ∷ past) id
 tied_split p s past seat i found low common column at id may ih h u f =
     after_split (nodes_of p past) (left_of (node_at p past i) i low common column at) (right_of (node_at p past i) i low common column at) (root_node p) id

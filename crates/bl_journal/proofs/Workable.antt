@@ -17,7 +17,7 @@ use Rattle.bl_journal.specs.declared.entry.Step.TheVariants.{Shut, Split}
 use Rattle.bl_journal.specs.declared.settings.Settings.{Settings}
 use Rattle.bl_journal.specs.Births.{Node, Branch, nodes_of, node_at, root_node, left_branch, right_branch}
 use Rattle.bl_journal.specs.Descriptions.{full_of, full_along, root_desc}
-use Rattle.bl_journal.specs.States.{State, waiting, out, freed, state_of, put_state, has_point, is_below, best_of}
+use Rattle.bl_journal.specs.States.{State, waiting, out, freed, state_of, put_state, has_point, is_below, cutoff_for}
 use Rattle.bl_journal.specs.Legality.{IsLegalPast, MayPut}
 use Rattle.bl_journal.proofs.Growth.{get_or-grown}
 use Rattle.bl_journal.proofs.Living.{Each, Each-append, take_gives}
@@ -46,7 +46,7 @@ Each-kept {X} P at dropped (x ∷ xs) a =
     by_test (λ (l : List X). Each P l) (is_among at dropped) (kept_from (at + 1) dropped xs) (x ∷ kept_from (at + 1) dropped xs) (λ _. rest) (λ _. (a.0, rest))
 
 child_cuts : (p : Program) (s : Settings) (past : List Entry) (seat i : ℕ) (found : Option (List ℤ)) (low : ℤ) (common : Change Cut) (column : ℕ) (at : ℤ) (branch : Branch)
-    → MayPut p past seat i found low (Split common column at) → branch.common ≡ common → CutsFine p (full_of p past i).cuts → CutsFine p (full_along p ((node_at p past i).path ++ branch ∷ [])).cuts
+    → MayPut p s past seat i found low (Split common column at) → branch.common ≡ common → CutsFine p (full_of p past i).cuts → CutsFine p (full_along p ((node_at p past i).path ++ branch ∷ [])).cuts
 child_cuts p s past seat i found low common column at branch may same f =
     let sw = may.sound.next_ok in
     let pushed : (full_along p ((node_at p past i).path ++ branch ∷ [])).cuts ≡ relisted branch.common.cuts (full_of p past i).cuts =
@@ -87,7 +87,7 @@ out_has_point p s [] l id seat o = cc
 out_has_point p s (Take t i ∷ past) l id seat o =
     by_test (λ (st : State). st ≡ out seat → has_point (full_of p past id).lows (full_of p past id).highs ≡ true) (i == id) (out t) (state_of past id)
     (λ e _. subst (λ (k : ℕ). has_point (full_of p past k).lows (full_of p past k).highs ≡ true) (eqb-true i id e)
-    (and_parts (has_point (full_of p past i).lows (full_of p past i).highs) (is_below (node_at p past i).low (best_of p past)) (take_gives p s past i l.0).open_node).0)
+    (and_parts (has_point (full_of p past i).lows (full_of p past i).highs) (is_below (node_at p past i).low (cutoff_for p s past)) (take_gives p s past i l.0).open_node).0)
     (λ _ k. out_has_point p s past l.1 id seat k) o
 out_has_point p s (Back t i ∷ past) l id seat o =
     by_test (λ (st : State). st ≡ out seat → has_point (full_of p past id).lows (full_of p past id).highs ≡ true) (i == id) waiting (state_of past id)

@@ -35,7 +35,7 @@ is_over freed open_node = false
 
 abbrev pub is_freeable : Program → Settings → List Entry → ℕ → Bool
 is_freeable p s past id =
-    is_over (state_of past id) (is_open p past id) && list_all (lets_go p s past id) (ids_of p past)
+    is_over (state_of past id) (is_open p s past id) && list_all (lets_go p s past id) (ids_of p past)
 
 abbrev pub first_freeable : Program → Settings → List Entry → Option ℕ
 first_freeable p s past = find (is_freeable p s past) (ids_of p past)

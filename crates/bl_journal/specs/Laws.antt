@@ -1,5 +1,5 @@
 -- Laws over histories, each in the words of its subject.
-use Rattle.std.specs.Prelude.{◌∷◌, Option, ℤ}
+use Rattle.std.specs.Prelude.{◌∷◌, Option, ℤ, pos, ◌≤ℤ◌}
 use Rattle.bl_problem.specs.declared.cut.Cut.{Cut}
 use Rattle.bl_desc.specs.declared.change.Change.{Change}
 use Rattle.bl_desc.specs.Changes.{changed}
@@ -27,23 +27,23 @@ pub record NodesAreStable : Type 0 where
   pub node : (p : Program) (history rest : List Entry) (id : ℕ) → id < length (nodes_of p (reverse history)) → node_at p (reverse (history ++ rest)) id ≡ node_at p (reverse history) id
   pub description : (p : Program) (history rest : List Entry) (id : ℕ) → id < length (nodes_of p (reverse history)) → full_of p (reverse (history ++ rest)) id ≡ full_of p (reverse history) id
 
--- in a legal history each feasible point below the best value lies in exactly one live node, and its value is at least that node's low number
+-- in a legal history each feasible point whose value is below the best one less the gap lies in exactly one live node, and its value is at least that node's low number
 pub record LiveNodesCover : Type 0 where
-  pub lies_somewhere : (p : Program) (s : Settings) (history : List Entry) (x : List ℤ) → IsLegal p s history → IsBetter p (reverse history) x → (id : ℕ) × LiesIn p (reverse history) x id
-  pub lies_once : (p : Program) (s : Settings) (history : List Entry) (x : List ℤ) (i j : ℕ) → IsLegal p s history → LiesIn p (reverse history) x i → LiesIn p (reverse history) x j → i ≡ j
+  pub lies_somewhere : (p : Program) (s : Settings) (history : List Entry) (x : List ℤ) → pos 0 ≤ℤ s.gap → IsLegal p s history → IsBetter p s (reverse history) x → (id : ℕ) × LiesIn p s (reverse history) x id
+  pub lies_once : (p : Program) (s : Settings) (history : List Entry) (x : List ℤ) (i j : ℕ) → IsLegal p s history → LiesIn p s (reverse history) x i → LiesIn p s (reverse history) x j → i ≡ j
 
 -- in a legal history the answer says of all feasible points what its variant means
 abbrev pub AnswersAreTrue : Type 0
 AnswersAreTrue =
-    (p : Program) (s : Settings) (history : List Entry) → IsLegal p s history → IsTrueFor p (answer_of p (reverse history))
+    (p : Program) (s : Settings) (history : List Entry) → pos 0 ≤ℤ s.gap → IsLegal p s history → IsTrueFor p (answer_of p s (reverse history))
 
 -- in a legal history the takes less the backs are no more than the nodes that may be used; and they and the takes that may still come are together less than twice the number of the root's points. Where there is no point, no node ever lives
 pub record BudgetHolds : Type 0 where
   pub few : (p : Program) (s : Settings) (history : List Entry) → IsLegal p s history → used_of (reverse history) ≤ s.nodes
-  pub within : (p : Program) (s : Settings) (history : List Entry) → IsLegal p s history → 0 < points_in (own_lows p) (own_highs p) → used_of (reverse history) + room_of p (reverse history) ≤ 2 * points_in (own_lows p) (own_highs p) - 1
+  pub within : (p : Program) (s : Settings) (history : List Entry) → IsLegal p s history → 0 < points_in (own_lows p) (own_highs p) → used_of (reverse history) + room_of p s (reverse history) ≤ 2 * points_in (own_lows p) (own_highs p) - 1
   pub none_used : (p : Program) (s : Settings) (history : List Entry) → IsLegal p s history → points_in (own_lows p) (own_highs p) ≡ 0 → used_of (reverse history) ≡ 0
-  pub no_room : (p : Program) (s : Settings) (history : List Entry) → IsLegal p s history → points_in (own_lows p) (own_highs p) ≡ 0 → room_of p (reverse history) ≡ 0
-  pub none_live : (p : Program) (s : Settings) (history : List Entry) (id : ℕ) → IsLegal p s history → points_in (own_lows p) (own_highs p) ≡ 0 → id < length (nodes_of p (reverse history)) → is_live p (reverse history) id ≡ false
+  pub no_room : (p : Program) (s : Settings) (history : List Entry) → IsLegal p s history → points_in (own_lows p) (own_highs p) ≡ 0 → room_of p s (reverse history) ≡ 0
+  pub none_live : (p : Program) (s : Settings) (history : List Entry) (id : ℕ) → IsLegal p s history → points_in (own_lows p) (own_highs p) ≡ 0 → id < length (nodes_of p (reverse history)) → is_live p s (reverse history) id ≡ false
 
 -- in a legal history an unfreed relative node has an unfreed parent, and the chain of each unfreed node has at most `span` pieces, which applied in order give its description
 pub record ChainsRebuild : Type 0 where
@@ -76,18 +76,18 @@ pub record LeasesAreWorkable : Type 0 where
 
 -- in a legal history a split gives each child the node's description after the common change, with the split's one bound set
 pub record ChildrenFollow : Type 0 where
-  pub left : (p : Program) (s : Settings) (history : List Entry) (seat id : ℕ) (found : Option (List ℤ)) (low : ℤ) (common : Change Cut) (column : ℕ) (at : ℤ) → IsLegal p s history → MayPut p (reverse history) seat id found low (Split common column at) → full_of p (Put seat id found low (Split common column at) ∷ reverse history) (length (nodes_of p (reverse history))) ≡ left_child (changed common (full_of p (reverse history) id)) column at
-  pub right : (p : Program) (s : Settings) (history : List Entry) (seat id : ℕ) (found : Option (List ℤ)) (low : ℤ) (common : Change Cut) (column : ℕ) (at : ℤ) → IsLegal p s history → MayPut p (reverse history) seat id found low (Split common column at) → full_of p (Put seat id found low (Split common column at) ∷ reverse history) (length (nodes_of p (reverse history)) + 1) ≡ right_child (changed common (full_of p (reverse history) id)) column at
+  pub left : (p : Program) (s : Settings) (history : List Entry) (seat id : ℕ) (found : Option (List ℤ)) (low : ℤ) (common : Change Cut) (column : ℕ) (at : ℤ) → IsLegal p s history → MayPut p s (reverse history) seat id found low (Split common column at) → full_of p (Put seat id found low (Split common column at) ∷ reverse history) (length (nodes_of p (reverse history))) ≡ left_child (changed common (full_of p (reverse history) id)) column at
+  pub right : (p : Program) (s : Settings) (history : List Entry) (seat id : ℕ) (found : Option (List ℤ)) (low : ℤ) (common : Change Cut) (column : ℕ) (at : ℤ) → IsLegal p s history → MayPut p s (reverse history) seat id found low (Split common column at) → full_of p (Put seat id found low (Split common column at) ∷ reverse history) (length (nodes_of p (reverse history)) + 1) ≡ right_child (changed common (full_of p (reverse history) id)) column at
 
 -- in a legal history a split's children are stored whole where the span divides their depth, and else as the canonical differences from their parent's description
 pub record NewbornsAreStored : Type 0 where
-  pub left : (p : Program) (s : Settings) (history : List Entry) (seat id : ℕ) (found : Option (List ℤ)) (low : ℤ) (common : Change Cut) (column : ℕ) (at : ℤ) → IsLegal p s history → MayPut p (reverse history) seat id found low (Split common column at) → stored_of p s (Put seat id found low (Split common column at) ∷ reverse history) (length (nodes_of p (reverse history))) ≡ piece_below (full_of p (reverse history) id) (form_at_birth s.span ((node_at p (reverse history) id).depth + 1)) (full_of p (Put seat id found low (Split common column at) ∷ reverse history) (length (nodes_of p (reverse history))))
-  pub right : (p : Program) (s : Settings) (history : List Entry) (seat id : ℕ) (found : Option (List ℤ)) (low : ℤ) (common : Change Cut) (column : ℕ) (at : ℤ) → IsLegal p s history → MayPut p (reverse history) seat id found low (Split common column at) → stored_of p s (Put seat id found low (Split common column at) ∷ reverse history) (length (nodes_of p (reverse history)) + 1) ≡ piece_below (full_of p (reverse history) id) (form_at_birth s.span ((node_at p (reverse history) id).depth + 1)) (full_of p (Put seat id found low (Split common column at) ∷ reverse history) (length (nodes_of p (reverse history)) + 1))
+  pub left : (p : Program) (s : Settings) (history : List Entry) (seat id : ℕ) (found : Option (List ℤ)) (low : ℤ) (common : Change Cut) (column : ℕ) (at : ℤ) → IsLegal p s history → MayPut p s (reverse history) seat id found low (Split common column at) → stored_of p s (Put seat id found low (Split common column at) ∷ reverse history) (length (nodes_of p (reverse history))) ≡ piece_below (full_of p (reverse history) id) (form_at_birth s.span ((node_at p (reverse history) id).depth + 1)) (full_of p (Put seat id found low (Split common column at) ∷ reverse history) (length (nodes_of p (reverse history))))
+  pub right : (p : Program) (s : Settings) (history : List Entry) (seat id : ℕ) (found : Option (List ℤ)) (low : ℤ) (common : Change Cut) (column : ℕ) (at : ℤ) → IsLegal p s history → MayPut p s (reverse history) seat id found low (Split common column at) → stored_of p s (Put seat id found low (Split common column at) ∷ reverse history) (length (nodes_of p (reverse history)) + 1) ≡ piece_below (full_of p (reverse history) id) (form_at_birth s.span ((node_at p (reverse history) id).depth + 1)) (full_of p (Put seat id found low (Split common column at) ∷ reverse history) (length (nodes_of p (reverse history)) + 1))
 
 -- in a legal history a take is answered Done only where no node is live, and the answer is then final. It is answered Spent only where as many nodes are used as may be and a live node waits, and then twice the number of the root's points is greater by 2 or more than the number of nodes that may be used
 pub record RepliesEndSearches : Type 0 where
-  pub none_live : (p : Program) (s : Settings) (history : List Entry) → IsLegal p s history → take_reply p s (reverse history) ≡ done → HasNoLive p (reverse history)
-  pub decided : (p : Program) (s : Settings) (history : List Entry) → IsLegal p s history → take_reply p s (reverse history) ≡ done → IsFinal (answer_of p (reverse history))
+  pub none_live : (p : Program) (s : Settings) (history : List Entry) → IsLegal p s history → take_reply p s (reverse history) ≡ done → HasNoLive p s (reverse history)
+  pub decided : (p : Program) (s : Settings) (history : List Entry) → IsLegal p s history → take_reply p s (reverse history) ≡ done → IsFinal (answer_of p s (reverse history))
   pub all_used : (p : Program) (s : Settings) (history : List Entry) → IsLegal p s history → take_reply p s (reverse history) ≡ spent → IsSpent p s (reverse history)
   pub budget : (p : Program) (s : Settings) (history : List Entry) → IsLegal p s history → take_reply p s (reverse history) ≡ spent → s.nodes + 2 ≤ 2 * points_in (own_lows p) (own_highs p)
 

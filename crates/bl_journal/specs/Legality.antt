@@ -54,9 +54,9 @@ most_new_cuts depth = if depth == 0 then 20 else if nat_le depth 8 then 2 else 0
 abbrev pub IsNewId : List Entry → ℕ → ItemId → Type 0
 IsNewId past seat id = (id.seat ≡ seat) × (Contains (ids_added past) id → ⊥)
 
-pub record MayPut (p : Program) (past : List Entry) (seat id : ℕ) (found : Option (List ℤ)) (low : ℤ) (next : Step) : Type 0 where
+pub record MayPut (p : Program) (s : Settings) (past : List Entry) (seat id : ℕ) (found : Option (List ℤ)) (low : ℤ) (next : Step) : Type 0 where
   pub is_out : state_of past id ≡ out seat
-  pub sound : IsSound p (full_of p past id) (cutoff_of p past id) found low next
+  pub sound : IsSound p (full_of p past id) (cutoff_of p s past id) found low next
   pub few_cuts : length (added_by_step next) ≤ most_new_cuts (node_at p past id).depth
   pub new_ids : All (λ c. IsNewId past seat c.id) (added_by_step next)
 
@@ -78,7 +78,7 @@ pub record MayEncode (p : Program) (s : Settings) (past : List Entry) (id : ℕ)
 abbrev pub IsAllowed : Program → Settings → List Entry → Entry → Type 0
 IsAllowed p s past (Take seat id) = take_reply p s past ≡ gives id
 IsAllowed p s past (Back seat id) = state_of past id ≡ out seat
-IsAllowed p s past (Put seat id found low next) = MayPut p past seat id found low next
+IsAllowed p s past (Put seat id found low next) = MayPut p s past seat id found low next
 IsAllowed p s past (Encode seat id form) = MayEncode p s past id form
 IsAllowed p s past (Free seat ids) = IsFreeChain p s past ids
 

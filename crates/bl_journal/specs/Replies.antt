@@ -1,11 +1,11 @@
 -- Which node a take gives.
-use Rattle.std.specs.Prelude.{ℕ, suc, zero, int_lt, Bool, true, false, ◌&&◌, ◌||◌, nat_lt, List, [], ◌∷◌, ◌++◌, length, Option, Some, None, if◌then◌else◌, ◌==◌}
+use Rattle.std.specs.Prelude.{ℕ, suc, zero, Bool, true, false, ◌&&◌, ◌||◌, nat_lt, List, [], ◌∷◌, ◌++◌, length, Option, Some, None, if◌then◌else◌}
 use Rattle.bl_problem.specs.Program.{Program}
 use Rattle.bl_journal.specs.declared.entry.Entry.{Entry}
 use Rattle.bl_journal.specs.declared.settings.Settings.{Settings}
-use Rattle.bl_journal.specs.declared.settings.Order.{Order}
-use Rattle.bl_journal.specs.declared.settings.Order.TheVariants.{Best, Depth}
-use Rattle.bl_journal.specs.Births.{Node, nodes_of, node_at}
+use Rattle.bl_pool.specs.declared.key.Key.{Key}
+use Rattle.bl_pool.specs.Orders.{before}
+use Rattle.bl_journal.specs.Births.{nodes_of, node_at}
 use Rattle.bl_journal.specs.States.{State, waiting, out, split, shut, freed, state_of, is_open, used_of}
 
 -- 0, 1, .. below n
@@ -31,28 +31,27 @@ is_out split = false
 is_out shut = false
 is_out freed = false
 
--- a goes before b, where the one with the less number goes first among equals
-abbrev pub goes_before : Order → Node → Node → Bool
-goes_before Best a b = int_lt a.low b.low
-goes_before Depth a b = nat_lt b.depth a.depth || a.depth == b.depth && int_lt a.low b.low
+-- what the order sees of a node
+abbrev pub key_of : Program → List Entry → ℕ → Key
+key_of p past id = record { id = id; low = (node_at p past id).low; depth = (node_at p past id).depth }
 
 abbrev pub preferred : (ℕ → ℕ → Bool) → Option ℕ → ℕ → Option ℕ
-preferred before None n = Some n
-preferred before (Some i) n = if before n i then Some n else Some i
+preferred comes None n = Some n
+preferred comes (Some i) n = if comes n i then Some n else Some i
 
--- the first in the order among the fit numbers below n; the least of those that come equally early
+-- the first among the fit numbers below n; the least of those that come equally early
 abbrev pub first_below : (ℕ → ℕ → Bool) → (ℕ → Bool) → ℕ → Option ℕ
-first_below before fit zero = None
-first_below before fit (suc n) =
-    if fit n then preferred before (first_below before fit n) n else first_below before fit n
+first_below comes fit zero = None
+first_below comes fit (suc n) =
+    if fit n then preferred comes (first_below comes fit n) n else first_below comes fit n
 
-abbrev pub waits_live : Program → List Entry → ℕ → Bool
-waits_live p past id = is_waiting (state_of past id) && is_open p past id
+abbrev pub waits_live : Program → Settings → List Entry → ℕ → Bool
+waits_live p s past id = is_waiting (state_of past id) && is_open p s past id
 
 -- the first live waiting node in the order
 abbrev pub next_of : Program → Settings → List Entry → Option ℕ
 next_of p s past =
-    first_below (λ i j. goes_before s.order (node_at p past i) (node_at p past j)) (waits_live p past) (length (nodes_of p past))
+    first_below (λ i j. before s.order (key_of p past i) (key_of p past j)) (waits_live p s past) (length (nodes_of p past))
 
 -- whether a number below n passes
 abbrev pub any_below : (ℕ → Bool) → ℕ → Bool

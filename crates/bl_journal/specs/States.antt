@@ -1,5 +1,5 @@
 -- What a history says of a node, of the best point and of the budget. The last entry comes first.
-use Rattle.std.specs.Prelude.{ℕ, ◌+◌, ◌-◌, ◌%◌, ℤ, int_lt, int_le, Bool, true, false, ◌&&◌, List, [], ◌∷◌, Option, Some, None, if◌then◌else◌, ◌==◌}
+use Rattle.std.specs.Prelude.{ℕ, ◌+◌, ◌-◌, ◌%◌, ℤ, ◌-ℤ◌, int_lt, int_le, Bool, true, false, ◌&&◌, List, [], ◌∷◌, Option, Some, None, if◌then◌else◌, ◌==◌}
 use Rattle.bl_mods.specs.Mods.{is_among}
 use Rattle.bl_problem.specs.Program.{Program}
 use Rattle.bl_problem.specs.Points.{value_of}
@@ -65,17 +65,25 @@ abbrev pub value_if : Option Found → Option ℤ
 value_if None = None
 value_if (Some f) = Some f.value
 
-abbrev pub cutoff_after : Program → List Entry → ℕ → Option ℤ → Entry → Option ℤ
-cutoff_after p past id c (Take seat i) = if i == id then value_if (best_of p past) else c
-cutoff_after p past id c (Put seat i found low next) = c
-cutoff_after p past id c (Back seat i) = c
-cutoff_after p past id c (Encode seat i form) = c
-cutoff_after p past id c (Free seat ids) = c
+abbrev pub value_less : ℤ → Option Found → Option ℤ
+value_less gap None = None
+value_less gap (Some f) = Some (f.value -ℤ gap)
 
--- the best value at the node's last take
-abbrev pub cutoff_of : Program → List Entry → ℕ → Option ℤ
-cutoff_of p [] id = None
-cutoff_of p (e ∷ past) id = cutoff_after p past id (cutoff_of p past id) e
+-- the best value less the gap; none where no point was found
+abbrev pub cutoff_for : Program → Settings → List Entry → Option ℤ
+cutoff_for p s past = value_less s.gap (best_of p past)
+
+abbrev pub cutoff_after : Program → Settings → List Entry → ℕ → Option ℤ → Entry → Option ℤ
+cutoff_after p s past id c (Take seat i) = if i == id then cutoff_for p s past else c
+cutoff_after p s past id c (Put seat i found low next) = c
+cutoff_after p s past id c (Back seat i) = c
+cutoff_after p s past id c (Encode seat i form) = c
+cutoff_after p s past id c (Free seat ids) = c
+
+-- the best value less the gap, at the node's last take
+abbrev pub cutoff_of : Program → Settings → List Entry → ℕ → Option ℤ
+cutoff_of p s [] id = None
+cutoff_of p s (e ∷ past) id = cutoff_after p s past id (cutoff_of p s past id) e
 
 abbrev pub used_after : ℕ → Entry → ℕ
 used_after n (Take seat id) = n + 1
@@ -114,10 +122,10 @@ has_point [] highs = true
 has_point (l ∷ lows) [] = true
 has_point (l ∷ lows) (h ∷ highs) = int_le l h && has_point lows highs
 
--- the number is below the best value, or there is none
-abbrev pub is_below : ℤ → Option Found → Bool
+-- the number is below the cutoff, or there is none
+abbrev pub is_below : ℤ → Option ℤ → Bool
 is_below n None = true
-is_below n (Some b) = int_lt n b.value
+is_below n (Some c) = int_lt n c
 
 abbrev pub is_live_in : State → Bool → Bool
 is_live_in waiting open_node = open_node
@@ -126,10 +134,10 @@ is_live_in split open_node = false
 is_live_in shut open_node = false
 is_live_in freed open_node = false
 
--- the box has a point and the low number is below the best value
-abbrev pub is_open : Program → List Entry → ℕ → Bool
-is_open p past id =
-    has_point (full_of p past id).lows (full_of p past id).highs && is_below (node_at p past id).low (best_of p past)
+-- the box has a point and the low number is below the best value less the gap
+abbrev pub is_open : Program → Settings → List Entry → ℕ → Bool
+is_open p s past id =
+    has_point (full_of p past id).lows (full_of p past id).highs && is_below (node_at p past id).low (cutoff_for p s past)
 
-abbrev pub is_live : Program → List Entry → ℕ → Bool
-is_live p past id = is_live_in (state_of past id) (is_open p past id)
+abbrev pub is_live : Program → Settings → List Entry → ℕ → Bool
+is_live p s past id = is_live_in (state_of past id) (is_open p s past id)

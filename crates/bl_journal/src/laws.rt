@@ -6,7 +6,7 @@ pub fn nodes_are_stable()
     ensures { NodesAreStable }
 {}
 
-/// In a legal history each feasible point below the best value lies in exactly one live node, and its value is at least that node's low number.
+/// In a legal history each feasible point whose value is below the best one less the gap lies in exactly one live node, and its value is at least that node's low number.
 pub fn live_nodes_cover()
     ensures { LiveNodesCover }
 {}

@@ -7,7 +7,8 @@ pub mod laws;
 mod outcome;
 mod settings;
 
+pub use bl_pool::Order;
 pub use entry::{Entry, Step};
 pub use journal::Journal;
 pub use outcome::{Next, Outcome};
-pub use settings::{Order, Settings};
+pub use settings::{LARGEST_GAP, Settings};

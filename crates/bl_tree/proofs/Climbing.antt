@@ -1,6 +1,6 @@
 -- What the history says after a node and those above it are freed.
 use Rattle.std.proofs.Common.{◌≡◌, ℕ, zero, suc, ◌+◌, ◌<◌, ◌%◌, List, [], ◌∷◌, length, refl, ap, sym, ◌∙◌, subst, arith, Bool, true, false, cond, not, Some, None, Option, inl, inr}
-use Rattle.std.specs.Prelude.{slice_get, slice_set, count_by, filter, ◌==◌, ◌||◌, ◌&&◌, IfSome, ℤ}
+use Rattle.std.specs.Prelude.{slice_get, slice_set, count_by, ◌==◌, ◌||◌, ◌&&◌, IfSome, ℤ}
 use Rattle.std.proofs.lemmas.Bool.{cases_eq, eq-eqb, ne_eqb, eqb-true, cond-true, cond-false, true≢false, and_parts}
 use Rattle.std.proofs.lemmas.Option.{slice_get_within}
 use Rattle.bl_mods.specs.Mods.{is_among}
@@ -15,18 +15,17 @@ use Rattle.bl_journal.specs.declared.entry.Entry.TheVariants.{Free}
 use Rattle.bl_journal.specs.declared.settings.Settings.{Settings}
 use Rattle.bl_journal.specs.Births.{Node, nodes_of, node_at}
 use Rattle.bl_journal.specs.Descriptions.{full_of, full_along}
-use Rattle.bl_journal.specs.States.{State, freed, state_of, form_of, encoded_form, best_of, value_if, has_point}
+use Rattle.bl_journal.specs.States.{State, freed, state_of, form_of, encoded_form, cutoff_for, is_below, has_point}
 use Rattle.bl_journal.specs.Pieces.{is_freed, stored_of, piece_in, difference_from}
 use Rattle.bl_journal.specs.Freeing.{is_parent, is_freeable, is_freeable_if, Climbs}
 use Rattle.bl_tree.specs.declared.record.Record.{Record}
 use Rattle.bl_tree.specs.declared.record.Stage.{Stage}
 use Rattle.bl_tree.specs.declared.record.Stage.TheVariants.{Waiting, Out, Parted, Closed, Gone}
-use Rattle.bl_tree.specs.Records.{stage_state, is_out_stage, is_waiting_stage, is_below_value, was_parted, has_children, is_child_in, is_over_stage, is_held, holds_if, may_go_at, may_go_if, gone_record, gone_if, gone_at, parent_if, if_may_go, next_up, IsFreedTo, AreRecords, AreStored, waiting_from}
+use Rattle.bl_tree.specs.Records.{stage_state, is_out_stage, is_waiting_stage, was_parted, has_children, is_child_in, is_over_stage, is_held, holds_if, may_go_at, may_go_if, gone_record, gone_if, gone_at, parent_if, if_may_go, next_up, IsFreedTo, AreRecords, AreStored}
 use Rattle.bl_journal.proofs.Sums.{one_if}
 use Rattle.bl_tree.proofs.Sets.{records_set, count_by-set}
 use Rattle.bl_tree.proofs.Stored.{piece_same, stored_gone}
 use Rattle.bl_tree.proofs.Kept.{has_record}
-use Rattle.bl_tree.proofs.Waits.{waiting_from-same, waiting_from-left}
 use Rattle.bl_tree.proofs.Goes.{may_go_same}
 use Rattle.bl_tree.proofs.Freeings.{length-gone, gone_keeps, parent-gone, up_is}
 
@@ -39,7 +38,7 @@ abbrev pub freed_in_turn : List Entry → List ℕ → List Entry
 freed_in_turn past [] = past
 freed_in_turn past (id ∷ ids) = freed_in_turn (free_one id ∷ past) ids
 
-gone_at-is : (rs : List Record) (id : ℕ) (r : Record) → slice_get rs id ≡ Some r → gone_at rs id ≡ slice_set rs id (gone_record r)
+pub gone_at-is : (rs : List Record) (id : ℕ) (r : Record) → slice_get rs id ≡ Some r → gone_at rs id ≡ slice_set rs id (gone_record r)
 gone_at-is rs id r e = ap (gone_if rs id) e
 
 records_gone : (p : Program) (past : List Entry) (rs : List Record) (id : ℕ) → AreRecords p past rs → id < length rs → AreRecords p (free_one id ∷ past) (gone_at rs id)
@@ -67,19 +66,19 @@ parent_known p s past rs id are st within =
     let x = has_record p past rs id are within in
     ap parent_if x.1 ∙ (st id x.0 x.1).parent
 
-pub freed_facts : (p : Program) (s : Settings) (best : Option ℤ) (ids : List ℕ) (past : List Entry) (rs : List Record) (id last : ℕ) (after : List Record)
-    → AreRecords p past rs → AreStored p s past rs → best ≡ value_if (best_of p past) → id < length rs
+pub freed_facts : (p : Program) (s : Settings) (cutoff : Option ℤ) (ids : List ℕ) (past : List Entry) (rs : List Record) (id last : ℕ) (after : List Record)
+    → AreRecords p past rs → AreStored p s past rs → cutoff ≡ cutoff_for p s past → id < length rs
     → ((k q : ℕ) → (node_at p past k).parent ≡ Some q → k < length (nodes_of p past) → q < length (nodes_of p past))
-    → IsFreedTo best rs id ids last after → next_up best after last ≡ None → FreedFacts p s past id ids after
-freed_facts p s best [] past rs id last after are st b within parents f top =
+    → IsFreedTo cutoff rs id ids last after → next_up cutoff after last ≡ None → FreedFacts p s past id ids after
+freed_facts p s cutoff [] past rs id last after are st b within parents f top =
     let e : after ≡ gone_at rs id = f.1 in
     let are1 = records_gone p past rs id are within in
     let st1 = storage_gone p s past rs id are st within in
     let len = length-gone rs id in
     let born : id < length (nodes_of p past) = (let c : length rs ≡ length (nodes_of p past) = are.count in omega (arith, within, c)) in
     let known : parent_if (slice_get (gone_at rs id) id) ≡ (node_at p past id).parent = parent_known p s (free_one id ∷ past) (gone_at rs id) id are1 st1 (omega (arith, within, len)) in
-    let none : if_may_go best (gone_at rs id) (node_at p past id).parent ≡ None =
-    ap (if_may_go best (gone_at rs id)) (sym known) ∙ (ap (λ (l : List Record). next_up best l id) (sym e) ∙ (ap (next_up best after) f.0 ∙ top)) in
+    let none : if_may_go cutoff (gone_at rs id) (node_at p past id).parent ≡ None =
+    ap (if_may_go cutoff (gone_at rs id)) (sym known) ∙ (ap (λ (l : List Record). next_up cutoff l id) (sym e) ∙ (ap (next_up cutoff after) f.0 ∙ top)) in
     record {
       climbs = by_parent (node_at p past id).parent (λ q g. parents id q g born) none are1 st1;
       records = subst (λ (l : List Record). AreRecords p (free_one id ∷ past) l) (sym e) are1;
@@ -90,21 +89,21 @@ freed_facts p s best [] past rs id last after are st b within parents f top =
     no_test q true g = cc
     no_test q false g = refl
 
-    by_parent : (o : Option ℕ) → ((q : ℕ) → o ≡ Some q → q < length (nodes_of p past)) → if_may_go best (gone_at rs id) o ≡ None
+    by_parent : (o : Option ℕ) → ((q : ℕ) → o ≡ Some q → q < length (nodes_of p past)) → if_may_go cutoff (gone_at rs id) o ≡ None
         → AreRecords p (free_one id ∷ past) (gone_at rs id) → AreStored p s (free_one id ∷ past) (gone_at rs id) → is_freeable_if p s (free_one id ∷ past) o ≡ false
     by_parent None born g are1 st1 = refl
     by_parent (Some q) born g are1 st1 =
-        sym (may_go_same p s (free_one id ∷ past) (gone_at rs id) best q are1 st1 b (born q refl)) ∙ no_test q (may_go_at best (gone_at rs id) q) g
-freed_facts p s best (q ∷ ids) past rs id last after are st b within parents f top =
+        sym (may_go_same p s (free_one id ∷ past) (gone_at rs id) cutoff q are1 st1 b (born q refl)) ∙ no_test q (may_go_at cutoff (gone_at rs id) q) g
+freed_facts p s cutoff (q ∷ ids) past rs id last after are st b within parents f top =
     let are1 = records_gone p past rs id are within in
     let st1 = storage_gone p s past rs id are st within in
     let len = length-gone rs id in
-    let up = up_is best (gone_at rs id) id q f.0 in
+    let up = up_is cutoff (gone_at rs id) id q f.0 in
     let known : parent_if (slice_get (gone_at rs id) id) ≡ (node_at p past id).parent = parent_known p s (free_one id ∷ past) (gone_at rs id) id are1 st1 (omega (arith, within, len)) in
     let there : q < length (gone_at rs id) = up.there in
     let born : q < length (nodes_of p past) = (let c : length (gone_at rs id) ≡ length (nodes_of p past) = are1.count in omega (arith, there, c)) in
-    let goes : is_freeable p s (free_one id ∷ past) q ≡ true = sym (may_go_same p s (free_one id ∷ past) (gone_at rs id) best q are1 st1 b born) ∙ up.goes in
-    let rest = freed_facts p s best ids (free_one id ∷ past) (gone_at rs id) q last after are1 st1 b there parents f.1 top in
+    let goes : is_freeable p s (free_one id ∷ past) q ≡ true = sym (may_go_same p s (free_one id ∷ past) (gone_at rs id) cutoff q are1 st1 b born) ∙ up.goes in
+    let rest = freed_facts p s cutoff ids (free_one id ∷ past) (gone_at rs id) q last after are1 st1 b there parents f.1 top in
     record {
       climbs = (sym known ∙ up.parent, goes, rest.climbs);
       records = rest.records;
@@ -199,8 +198,8 @@ pub record Goes (rs : List Record) (id : ℕ) : Type 0 where
   pub not_out : is_out_stage r.stage ≡ false
   pub stays : is_freed (stage_state r.stage) ≡ false
 
-pub goes_is : (best : Option ℤ) (rs : List Record) (id : ℕ) → may_go_at best rs id ≡ true → Goes rs id
-goes_is best rs id g = by_option (slice_get rs id) refl g
+pub goes_is : (cutoff : Option ℤ) (rs : List Record) (id : ℕ) → may_go_at cutoff rs id ≡ true → Goes rs id
+goes_is cutoff rs id g = by_option (slice_get rs id) refl g
   where
     stage_is : (t : Stage) (b : Bool) → is_over_stage t b ≡ true → (is_out_stage t ≡ false) × (is_freed (stage_state t) ≡ false)
     stage_is Waiting b h = (refl, refl)
@@ -209,21 +208,17 @@ goes_is best rs id g = by_option (slice_get rs id) refl g
     stage_is Closed b h = (refl, refl)
     stage_is Gone b h = absurd (true≢false (sym h))
 
-    by_option : (o : Option Record) → slice_get rs id ≡ o → may_go_if best rs o ≡ true → Goes rs id
+    by_option : (o : Option Record) → slice_get rs id ≡ o → may_go_if cutoff rs o ≡ true → Goes rs id
     by_option None e h = cc
     by_option (Some r) e h = let f = stage_is r.stage _ (and_parts _ _ h).0 in record { r = r; is = e; not_out = f.0; stays = f.1 }
 
 -- the numbers of the nodes that are out stay
-pub outs_gone : (best : Option ℤ) (rs : List Record) (id : ℕ) → may_go_at best rs id ≡ true → count_by (λ (r : Record). is_out_stage r.stage) (gone_at rs id) ≡ count_by (λ (r : Record). is_out_stage r.stage) rs
-outs_gone best rs id g =
-    let f = goes_is best rs id g in
+pub outs_gone : (cutoff : Option ℤ) (rs : List Record) (id : ℕ) → may_go_at cutoff rs id ≡ true → count_by (λ (r : Record). is_out_stage r.stage) (gone_at rs id) ≡ count_by (λ (r : Record). is_out_stage r.stage) rs
+outs_gone cutoff rs id g =
+    let f = goes_is cutoff rs id g in
     let c = count_by-set (λ (q : Record). is_out_stage q.stage) rs id (gone_record f.r) f.r f.is in
     let none : one_if (is_out_stage f.r.stage) ≡ 0 = ap one_if f.not_out in
     ap (λ (l : List Record). count_by (λ (r : Record). is_out_stage r.stage) l) (gone_at-is rs id f.r f.is) ∙ omega (arith, c, none)
-
--- a node that does not wait leaves the waiting nodes as they are
-waiting_gone : (rs : List Record) (id : ℕ) (r : Record) → slice_get rs id ≡ Some r → is_waiting_stage r.stage ≡ false → waiting_from 0 (gone_at rs id) ≡ waiting_from 0 rs
-waiting_gone rs id r e w = ap (waiting_from 0) (gone_at-is rs id r e) ∙ waiting_from-same 0 rs id r (gone_record r) e (sym w)
 
 abbrev children_if : Option Record → Option ℕ
 children_if None = None
@@ -295,14 +290,14 @@ gone_self rs id r e = ap (λ (l : List Record). slice_get l id) (gone_at-is rs i
     set_same (x ∷ xs) (suc i) y b = set_same xs i y (omega (arith, b))
 
 -- a freed node can't go again
-gone_stays : (best : Option ℤ) (rs : List Record) (id : ℕ) → may_go_at best (gone_at rs id) id ≡ false
-gone_stays best rs id = by_option (slice_get rs id) refl
+gone_stays : (cutoff : Option ℤ) (rs : List Record) (id : ℕ) → may_go_at cutoff (gone_at rs id) id ≡ false
+gone_stays cutoff rs id = by_option (slice_get rs id) refl
   where
-    by_option : (o : Option Record) → slice_get rs id ≡ o → may_go_at best (gone_at rs id) id ≡ false
-    by_option None e = ap (λ (l : List Record). may_go_at best l id) (ap (gone_if rs id) e) ∙ ap (may_go_if best rs) e
-    by_option (Some r) e = ap (may_go_if best (gone_at rs id)) (gone_self rs id r e)
+    by_option : (o : Option Record) → slice_get rs id ≡ o → may_go_at cutoff (gone_at rs id) id ≡ false
+    by_option None e = ap (λ (l : List Record). may_go_at cutoff l id) (ap (gone_if rs id) e) ∙ ap (may_go_if cutoff rs) e
+    by_option (Some r) e = ap (may_go_if cutoff (gone_at rs id)) (gone_self rs id r e)
 
-knows_gone : (rs : List Record) (id : ℕ) → KnowsParents rs → KnowsParents (gone_at rs id)
+pub knows_gone : (rs : List Record) (id : ℕ) → KnowsParents rs → KnowsParents (gone_at rs id)
 knows_gone rs id k =
     record {
       parent = λ j c h b. let len : length (gone_at rs id) ≡ length rs = length-gone rs id in
@@ -327,10 +322,10 @@ knows_gone rs id k =
         ]
 
 -- a node that may go after another one that is not its child is freed could go before
-still_goes : (best : Option ℤ) (rs : List Record) (id j : ℕ) → may_go_at best (gone_at rs id) j ≡ true → is_child_in (children_if (slice_get rs j)) id ≡ false → may_go_at best rs j ≡ true
-still_goes best rs id j g no_child =
+still_goes : (cutoff : Option ℤ) (rs : List Record) (id j : ℕ) → may_go_at cutoff (gone_at rs id) j ≡ true → is_child_in (children_if (slice_get rs j)) id ≡ false → may_go_at cutoff rs j ≡ true
+still_goes cutoff rs id j g no_child =
     elim (cases_eq j id) [
-      | inl same ↦ absurd (true≢false (sym g ∙ (ap (may_go_at best (gone_at rs id)) same ∙ gone_stays best rs id)))
+      | inl same ↦ absurd (true≢false (sym g ∙ (ap (may_go_at cutoff (gone_at rs id)) same ∙ gone_stays cutoff rs id)))
       | inr other ↦ other_goes other (slice_get rs j) refl
     ]
   where
@@ -348,14 +343,14 @@ still_goes best rs id j g no_child =
         ap (λ (o : Option Record). holds_if o || holds_if (slice_get (gone_at rs id) (c + 1))) (gone_other rs id c (apart id c parts.0))
         ∙ ap (λ (o : Option Record). holds_if (slice_get rs c) || holds_if o) (gone_other rs id (c + 1) (apart id (c + 1) parts.1))
 
-    other_goes : (j ≡ id → ⊥) → (o : Option Record) → slice_get rs j ≡ o → may_go_at best rs j ≡ true
+    other_goes : (j ≡ id → ⊥) → (o : Option Record) → slice_get rs j ≡ o → may_go_at cutoff rs j ≡ true
     other_goes ne None e =
-        absurd (true≢false (sym g ∙ ap (may_go_if best (gone_at rs id)) (gone_other rs id j ne ∙ e)))
+        absurd (true≢false (sym g ∙ ap (may_go_if cutoff (gone_at rs id)) (gone_other rs id j ne ∙ e)))
     other_goes ne (Some r) e =
         let c : is_child_in r.children id ≡ false = ap (λ (o : Option Record). is_child_in (children_if o) id) (sym e) ∙ no_child in
-        ap (may_go_if best rs) e
-        ∙ (ap (λ (t : Bool). is_over_stage r.stage (r.has_point && is_below_value r.low best) && not t) (sym (held r.children c))
-        ∙ (ap (may_go_if best (gone_at rs id)) (sym (gone_other rs id j ne ∙ e)) ∙ g))
+        ap (may_go_if cutoff rs) e
+        ∙ (ap (λ (t : Bool). is_over_stage r.stage (r.has_point && is_below r.low cutoff) && not t) (sym (held r.children c))
+        ∙ (ap (may_go_if cutoff (gone_at rs id)) (sym (gone_other rs id j ne ∙ e)) ∙ g))
 
 is_gone_if : Option Record → Bool
 is_gone_if None = false
@@ -373,58 +368,58 @@ gone_last rs id j g =
     self None e h = absurd (true≢false (sym h))
     self (Some r) e h = ap is_gone_if (gone_self rs id r e)
 
-stays_gone : (best : Option ℤ) (ids : List ℕ) (rs : List Record) (id last : ℕ) (after : List Record) → IsFreedTo best rs id ids last after → (j : ℕ) → is_gone_if (slice_get rs j) ≡ true → is_gone_if (slice_get after j) ≡ true
-stays_gone best [] rs id last after f j g = ap (λ (l : List Record). is_gone_if (slice_get l j)) f.1 ∙ gone_last rs id j g
-stays_gone best (q ∷ ids) rs id last after f j g = stays_gone best ids (gone_at rs id) q last after f.1 j (gone_last rs id j g)
+stays_gone : (cutoff : Option ℤ) (ids : List ℕ) (rs : List Record) (id last : ℕ) (after : List Record) → IsFreedTo cutoff rs id ids last after → (j : ℕ) → is_gone_if (slice_get rs j) ≡ true → is_gone_if (slice_get after j) ≡ true
+stays_gone cutoff [] rs id last after f j g = ap (λ (l : List Record). is_gone_if (slice_get l j)) f.1 ∙ gone_last rs id j g
+stays_gone cutoff (q ∷ ids) rs id last after f j g = stays_gone cutoff ids (gone_at rs id) q last after f.1 j (gone_last rs id j g)
 
 -- the first freed node is gone in the end
-first_gone : (best : Option ℤ) (ids : List ℕ) (rs : List Record) (id last : ℕ) (after : List Record) (r : Record) → IsFreedTo best rs id ids last after → slice_get rs id ≡ Some r → is_gone_if (slice_get after id) ≡ true
+first_gone : (cutoff : Option ℤ) (ids : List ℕ) (rs : List Record) (id last : ℕ) (after : List Record) (r : Record) → IsFreedTo cutoff rs id ids last after → slice_get rs id ≡ Some r → is_gone_if (slice_get after id) ≡ true
 unfolding is_gone_if
-first_gone best [] rs id last after r f e = ap (λ (l : List Record). is_gone_if (slice_get l id)) f.1 ∙ ap is_gone_if (gone_self rs id r e)
-first_gone best (q ∷ ids) rs id last after r f e = stays_gone best ids (gone_at rs id) q last after f.1 id (ap is_gone_if (gone_self rs id r e))
+first_gone cutoff [] rs id last after r f e = ap (λ (l : List Record). is_gone_if (slice_get l id)) f.1 ∙ ap is_gone_if (gone_self rs id r e)
+first_gone cutoff (q ∷ ids) rs id last after r f e = stays_gone cutoff ids (gone_at rs id) q last after f.1 id (ap is_gone_if (gone_self rs id r e))
 
-gone_not_go : (best : Option ℤ) (rs : List Record) (j : ℕ) → is_gone_if (slice_get rs j) ≡ true → may_go_at best rs j ≡ true → ⊥
+gone_not_go : (cutoff : Option ℤ) (rs : List Record) (j : ℕ) → is_gone_if (slice_get rs j) ≡ true → may_go_at cutoff rs j ≡ true → ⊥
 unfolding is_gone_if
-gone_not_go best rs j g m =
-    let f = goes_is best rs j m in
+gone_not_go cutoff rs j g m =
+    let f = goes_is cutoff rs j m in
     true≢false (sym g ∙ (ap is_gone_if f.is ∙ f.stays))
 
 -- a node that may go in the end could go before
-pub goes_before : (best : Option ℤ) (ids : List ℕ) (rs : List Record) (id last : ℕ) (after : List Record) → IsFreedTo best rs id ids last after → next_up best after last ≡ None → KnowsParents rs → id < length rs
-    → (j : ℕ) → may_go_at best after j ≡ true → may_go_at best rs j ≡ true
-goes_before best [] rs id last after f top k within j g =
+pub goes_before : (cutoff : Option ℤ) (ids : List ℕ) (rs : List Record) (id last : ℕ) (after : List Record) → IsFreedTo cutoff rs id ids last after → next_up cutoff after last ≡ None → KnowsParents rs → id < length rs
+    → (j : ℕ) → may_go_at cutoff after j ≡ true → may_go_at cutoff rs j ≡ true
+goes_before cutoff [] rs id last after f top k within j g =
     by_child (is_child_in (children_if (slice_get rs j)) id) refl
   where
-    goes : may_go_at best (gone_at rs id) j ≡ true
-    goes = ap (λ (l : List Record). may_go_at best l j) (sym f.1) ∙ g
+    goes : may_go_at cutoff (gone_at rs id) j ≡ true
+    goes = ap (λ (l : List Record). may_go_at cutoff l j) (sym f.1) ∙ g
 
-    by_child : (b : Bool) → is_child_in (children_if (slice_get rs j)) id ≡ b → may_go_at best rs j ≡ true
+    by_child : (b : Bool) → is_child_in (children_if (slice_get rs j)) id ≡ b → may_go_at cutoff rs j ≡ true
     by_child true c =
-        let up : next_up best (gone_at rs id) id ≡ None = ap (λ (l : List Record). next_up best l id) (sym f.1) ∙ (ap (next_up best after) f.0 ∙ top) in
+        let up : next_up cutoff (gone_at rs id) id ≡ None = ap (λ (l : List Record). next_up cutoff l id) (sym f.1) ∙ (ap (next_up cutoff after) f.0 ∙ top) in
         let parent : parent_if (slice_get (gone_at rs id) id) ≡ Some j = parent-gone rs id id ∙ k.parent j id c within in
-        let some : next_up best (gone_at rs id) id ≡ Some j = ap (if_may_go best (gone_at rs id)) parent ∙ cond-true (may_go_at best (gone_at rs id) j) (Some j) None goes in
+        let some : next_up cutoff (gone_at rs id) id ≡ Some j = ap (if_may_go cutoff (gone_at rs id)) parent ∙ cond-true (may_go_at cutoff (gone_at rs id) j) (Some j) None goes in
         let wrong : None ≡ Some j = sym up ∙ some in cc
-    by_child false c = still_goes best rs id j goes c
-goes_before best (q ∷ ids) rs id last after f top k within j g =
-    let up = up_is best (gone_at rs id) id q f.0 in
-    by_child up.parent up.there (goes_is best (gone_at rs id) q up.goes) (goes_before best ids (gone_at rs id) q last after f.1 top (knows_gone rs id k) up.there j g) (is_child_in (children_if (slice_get rs j)) id) refl
+    by_child false c = still_goes cutoff rs id j goes c
+goes_before cutoff (q ∷ ids) rs id last after f top k within j g =
+    let up = up_is cutoff (gone_at rs id) id q f.0 in
+    by_child up.parent up.there (goes_is cutoff (gone_at rs id) q up.goes) (goes_before cutoff ids (gone_at rs id) q last after f.1 top (knows_gone rs id k) up.there j g) (is_child_in (children_if (slice_get rs j)) id) refl
   where
     some_same : (a b : ℕ) → Some a ≡ Some b → a ≡ b
     some_same a b e = cc
 
-    by_child : parent_if (slice_get (gone_at rs id) id) ≡ Some q → q < length (gone_at rs id) → Goes (gone_at rs id) q → may_go_at best (gone_at rs id) j ≡ true
-        → (b : Bool) → is_child_in (children_if (slice_get rs j)) id ≡ b → may_go_at best rs j ≡ true
+    by_child : parent_if (slice_get (gone_at rs id) id) ≡ Some q → q < length (gone_at rs id) → Goes (gone_at rs id) q → may_go_at cutoff (gone_at rs id) j ≡ true
+        → (b : Bool) → is_child_in (children_if (slice_get rs j)) id ≡ b → may_go_at cutoff rs j ≡ true
     by_child up there record_of goes true c =
         let parent : parent_if (slice_get (gone_at rs id) id) ≡ Some j = parent-gone rs id id ∙ k.parent j id c within in
         let same : j ≡ q = some_same j q (sym parent ∙ up) in
-        absurd (gone_not_go best after q (first_gone best ids (gone_at rs id) q last after record_of.r f.1 record_of.is) (ap (may_go_at best after) (sym same) ∙ g))
-    by_child up there record_of goes false c = still_goes best rs id j goes c
+        absurd (gone_not_go cutoff after q (first_gone cutoff ids (gone_at rs id) q last after record_of.r f.1 record_of.is) (ap (may_go_at cutoff after) (sym same) ∙ g))
+    by_child up there record_of goes false c = still_goes cutoff rs id j goes c
 
 -- the parent of a node does not wait
-parent_not_waiting : (best : Option ℤ) (rs : List Record) (id q : ℕ) → KnowsParents rs → next_up best rs id ≡ Some q → (r : Record) × (slice_get rs q ≡ Some r) × (is_waiting_stage r.stage ≡ false)
-parent_not_waiting best rs id q k e =
-    let up = up_is best rs id q e in
-    let f = goes_is best rs q up.goes in
+pub parent_not_waiting : (cutoff : Option ℤ) (rs : List Record) (id q : ℕ) → KnowsParents rs → next_up cutoff rs id ≡ Some q → (r : Record) × (slice_get rs q ≡ Some r) × (is_waiting_stage r.stage ≡ false)
+parent_not_waiting cutoff rs id q k e =
+    let up = up_is cutoff rs id q e in
+    let f = goes_is cutoff rs q up.goes in
     let child : is_child_in (children_if (slice_get rs q)) id ≡ true = k.child q id up.parent up.there in
     let some : has_children (children_if (slice_get rs q)) ≡ true = has (children_if (slice_get rs q)) child in
     let parted : was_parted f.r.stage ≡ true = ap parted_if (sym f.is) ∙ k.parted q some in
@@ -441,35 +436,12 @@ parent_not_waiting best rs id q k e =
     not_waiting Closed h = refl
     not_waiting Gone h = refl
 
-waits_above : (best : Option ℤ) (ids : List ℕ) (rs : List Record) (id last : ℕ) (after : List Record) → IsFreedTo best rs id ids last after → KnowsParents rs
-    → (r : Record) → slice_get rs id ≡ Some r → is_waiting_stage r.stage ≡ false → waiting_from 0 after ≡ waiting_from 0 rs
-waits_above best [] rs id last after f k r e w = ap (waiting_from 0) f.1 ∙ waiting_gone rs id r e w
-waits_above best (q ∷ ids) rs id last after f k r e w =
-    let x = parent_not_waiting best (gone_at rs id) id q (knows_gone rs id k) f.0 in
-    waits_above best ids (gone_at rs id) q last after f.1 (knows_gone rs id k) x.0 x.1 x.2 ∙ waiting_gone rs id r e w
-
--- the first freed node alone may have waited
-pub waits_freed : (best : Option ℤ) (ids : List ℕ) (rs : List Record) (id last : ℕ) (after : List Record) → IsFreedTo best rs id ids last after → KnowsParents rs
-    → (r : Record) → slice_get rs id ≡ Some r → waiting_from 0 after ≡ filter (λ w. not (w == id)) (waiting_from 0 rs)
-waits_freed best ids rs id last after f k r e = by_list ids f
-  where
-    front : waiting_from 0 (gone_at rs id) ≡ filter (λ w. not (w == id)) (waiting_from 0 rs)
-    front =
-        let zero_more : id ≡ 0 + id = omega arith in
-        ap (waiting_from 0) (gone_at-is rs id r e) ∙ sym (waiting_from-left 0 id rs id (gone_record r) zero_more (slice_get_within rs id r e) refl)
-
-    by_list : (ids : List ℕ) → IsFreedTo best rs id ids last after → waiting_from 0 after ≡ filter (λ w. not (w == id)) (waiting_from 0 rs)
-    by_list [] f = ap (waiting_from 0) f.1 ∙ front
-    by_list (q ∷ ids) f =
-        let x = parent_not_waiting best (gone_at rs id) id q (knows_gone rs id k) f.0 in
-        waits_above best ids (gone_at rs id) q last after f.1 (knows_gone rs id k) x.0 x.1 x.2 ∙ front
-
 -- as many nodes are out as before
-pub outs_freed : (best : Option ℤ) (ids : List ℕ) (rs : List Record) (id last : ℕ) (after : List Record) → IsFreedTo best rs id ids last after → may_go_at best rs id ≡ true
+pub outs_freed : (cutoff : Option ℤ) (ids : List ℕ) (rs : List Record) (id last : ℕ) (after : List Record) → IsFreedTo cutoff rs id ids last after → may_go_at cutoff rs id ≡ true
     → count_by (λ (r : Record). is_out_stage r.stage) after ≡ count_by (λ (r : Record). is_out_stage r.stage) rs
-outs_freed best [] rs id last after f g = ap (λ (l : List Record). count_by (λ (r : Record). is_out_stage r.stage) l) f.1 ∙ outs_gone best rs id g
-outs_freed best (q ∷ ids) rs id last after f g = outs_freed best ids (gone_at rs id) q last after f.1 (up_is best (gone_at rs id) id q f.0).goes ∙ outs_gone best rs id g
+outs_freed cutoff [] rs id last after f g = ap (λ (l : List Record). count_by (λ (r : Record). is_out_stage r.stage) l) f.1 ∙ outs_gone cutoff rs id g
+outs_freed cutoff (q ∷ ids) rs id last after f g = outs_freed cutoff ids (gone_at rs id) q last after f.1 (up_is cutoff (gone_at rs id) id q f.0).goes ∙ outs_gone cutoff rs id g
 
-pub length_freed : (best : Option ℤ) (ids : List ℕ) (rs : List Record) (id last : ℕ) (after : List Record) → IsFreedTo best rs id ids last after → length after ≡ length rs
-length_freed best [] rs id last after f = ap length f.1 ∙ length-gone rs id
-length_freed best (q ∷ ids) rs id last after f = length_freed best ids (gone_at rs id) q last after f.1 ∙ length-gone rs id
+pub length_freed : (cutoff : Option ℤ) (ids : List ℕ) (rs : List Record) (id last : ℕ) (after : List Record) → IsFreedTo cutoff rs id ids last after → length after ≡ length rs
+length_freed cutoff [] rs id last after f = ap length f.1 ∙ length-gone rs id
+length_freed cutoff (q ∷ ids) rs id last after f = length_freed cutoff ids (gone_at rs id) q last after f.1 ∙ length-gone rs id

@@ -1,5 +1,5 @@
 -- The candidates stay candidates.
-use Rattle.std.proofs.Common.{◌≡◌, ℕ, ◌+◌, ◌<◌, ◌≤◌, ◌%◌, List, [], ◌∷◌, ◌++◌, length, refl, ap, sym, ◌∙◌, arith, Bool, true, false, cond, not, Some, None, Option, inl, inr}
+use Rattle.std.proofs.Common.{◌≡◌, ℕ, ◌+◌, ◌<◌, ◌≤◌, ◌%◌, List, ◌∷◌, length, refl, ap, sym, ◌∙◌, arith, Bool, true, false, cond, not, Some, None, Option, inl, inr}
 use Rattle.std.specs.Prelude.{◌==◌, ◌||◌, ◌&&◌, ℤ, int_lt}
 use Rattle.std.specs.List.{list_all}
 use Rattle.std.proofs.lemmas.Bool.{cases_eq, cases_lt, eq-eqb, ne_eqb, eqb-true, cond-true, cond-false, true≢false, and_parts, or_cases, or_left, or_right}
@@ -16,7 +16,7 @@ use Rattle.bl_journal.specs.declared.entry.Step.TheVariants.{Shut, Split}
 use Rattle.bl_journal.specs.declared.settings.Settings.{Settings}
 use Rattle.bl_journal.specs.Births.{Node, nodes_of, node_at, root_node}
 use Rattle.bl_journal.specs.Descriptions.{full_of, full_along}
-use Rattle.bl_journal.specs.States.{State, waiting, out, split, shut, freed, state_of, put_state, form_of, encoded_form, is_spanned, is_open, is_below, has_point, best_of, best_with, value_if, Found}
+use Rattle.bl_journal.specs.States.{State, waiting, out, split, shut, freed, state_of, put_state, form_of, encoded_form, is_spanned, is_open, is_below, has_point, best_of, best_with, value_if, value_less, Found}
 use Rattle.bl_journal.specs.Replies.{ids_of, ids_below, is_waiting, take_reply, gives}
 use Rattle.bl_journal.specs.Pieces.{is_freed}
 use Rattle.bl_journal.specs.Freeing.{is_parent, is_explicit, lets_go, is_over, is_freeable, standing_of}
@@ -28,55 +28,33 @@ use Rattle.bl_tree.specs.Records.{IsCandidate, improves}
 use Rattle.bl_tree.proofs.Goes.{all_ids, ids_all}
 
 -- each node that may be freed is a candidate
-abbrev pub IsCovered : Program → Settings → List Entry → List ℕ → Bool → Type 0
+abbrev pub IsCovered : Program → Settings → List Entry → (ℕ → Bool) → Bool → Type 0
 IsCovered p s past candidates fell = (id : ℕ) → id < length (nodes_of p past) → is_freeable p s past id ≡ true → IsCandidate candidates fell past id
 
 -- what may be freed now could be freed before, where each of its parts could
 pub freeable_before : (p : Program) (s : Settings) (past past' : List Entry) (q : ℕ) → length (nodes_of p past) ≤ length (nodes_of p past')
-    → (is_over (state_of past' q) (is_open p past' q) ≡ true → is_over (state_of past q) (is_open p past q) ≡ true)
+    → (is_over (state_of past' q) (is_open p s past' q) ≡ true → is_over (state_of past q) (is_open p s past q) ≡ true)
     → ((c : ℕ) → c < length (nodes_of p past) → lets_go p s past' q c ≡ true → lets_go p s past q c ≡ true)
     → is_freeable p s past' q ≡ true → is_freeable p s past q ≡ true
 freeable_before p s past past' q longer over goes f =
-    let parts = and_parts (is_over (state_of past' q) (is_open p past' q)) (list_all (lets_go p s past' q) (ids_of p past')) f in
+    let parts = and_parts (is_over (state_of past' q) (is_open p s past' q)) (list_all (lets_go p s past' q) (ids_of p past')) f in
     ap (λ (t : Bool). t && list_all (lets_go p s past q) (ids_of p past)) (over parts.0)
     ∙ all_ids (lets_go p s past q) (length (nodes_of p past)) (λ c b. goes c b (ids_all (lets_go p s past' q) (length (nodes_of p past')) parts.1 c (omega (arith, b, longer))))
 
 -- a candidate whose state stays is one still
-candidate_stays : (cs cs' : List ℕ) (fell fell' : Bool) (past past' : List Entry) (q : ℕ) → (is_among q cs ≡ true → is_among q cs' ≡ true) → (fell ≡ true → fell' ≡ true) → state_of past' q ≡ state_of past q
+pub candidate_stays : (cs cs' : ℕ → Bool) (fell fell' : Bool) (past past' : List Entry) (q : ℕ) → (cs q ≡ true → cs' q ≡ true) → (fell ≡ true → fell' ≡ true) → state_of past' q ≡ state_of past q
     → IsCandidate cs fell past q → IsCandidate cs' fell' past' q
 candidate_stays cs cs' fell fell' past past' q more falls same h =
-    elim (or_cases (is_among q cs) (fell && is_waiting (state_of past q)) h) [
-      | inl a ↦ or_left (is_among q cs') (fell' && is_waiting (state_of past' q)) (more a)
+    elim (or_cases (cs q) (fell && is_waiting (state_of past q)) h) [
+      | inl a ↦ or_left (cs' q) (fell' && is_waiting (state_of past' q)) (more a)
       | inr b ↦
           let parts = and_parts fell (is_waiting (state_of past q)) b in
-          or_right (is_among q cs') (fell' && is_waiting (state_of past' q))
+          or_right (cs' q) (fell' && is_waiting (state_of past' q))
           (ap (λ (t : Bool). t && is_waiting (state_of past' q)) (falls parts.0) ∙ (ap is_waiting same ∙ parts.1))
     ]
 
-pub among_append : (q : ℕ) (xs ys : List ℕ) → is_among q xs ≡ true → is_among q (xs ++ ys) ≡ true
-among_append q [] ys a = absurd (true≢false (sym a))
-among_append q (x ∷ xs) ys a =
-    elim (or_cases (x == q) (is_among q xs) a) [
-      | inl e ↦ or_left (x == q) (is_among q (xs ++ ys)) e
-      | inr e ↦ or_right (x == q) (is_among q (xs ++ ys)) (among_append q xs ys e)
-    ]
-
-pub among_new : (q : ℕ) (xs ys : List ℕ) → is_among q ys ≡ true → is_among q (xs ++ ys) ≡ true
-among_new q [] ys a = a
-among_new q (x ∷ xs) ys a = or_right (x == q) (is_among q (xs ++ ys)) (among_new q xs ys a)
-
-pub two_among : (q n : ℕ) → n ≤ q → q < n + 2 → is_among q (n ∷ (n + 1) ∷ []) ≡ true
-two_among q n lo hi =
-    elim (cases_eq n q) [
-      | inl e ↦ or_left (n == q) (is_among q ((n + 1) ∷ [])) (eq-eqb n q e)
-      | inr ne ↦ or_right (n == q) (is_among q ((n + 1) ∷ [])) (or_left (n + 1 == q) false (eq-eqb (n + 1) q (next ne)))
-    ]
-  where
-    next : (n ≡ q → ⊥) → n + 1 ≡ q
-    next ne = elim (cases_lt n q) [ inl b ↦ omega (arith, b, hi) | inr b ↦ absurd (ne (omega (arith, b, lo))) ]
-
-listed : (cs : List ℕ) (fell : Bool) (past : List Entry) (q : ℕ) → is_among q cs ≡ true → IsCandidate cs fell past q
-listed cs fell past q a = or_left (is_among q cs) (fell && is_waiting (state_of past q)) a
+listed : (cs : ℕ → Bool) (fell : Bool) (past : List Entry) (q : ℕ) → cs q ≡ true → IsCandidate cs fell past q
+listed cs fell past q a = or_left (cs q) (fell && is_waiting (state_of past q)) a
 
 -- the same of a child, where it is freed exactly where it was, and its form stays
 child_goes : (p : Program) (s : Settings) (past past' : List Entry) (q c : ℕ) → node_at p past' c ≡ node_at p past c → is_freed (state_of past' c) ≡ is_freed (state_of past c) → form_of p s past' c ≡ form_of p s past c
@@ -89,18 +67,18 @@ child_goes p s past past' q c node as_before form g =
 over_same_state : (t t' : State) (b : Bool) → t' ≡ t → is_over t' b ≡ true → is_over t b ≡ true
 over_same_state t t' b e h = ap (λ (u : State). is_over u b) (sym e) ∙ h
 
-pub covered_take : (p : Program) (s : Settings) (past : List Entry) (cs : List ℕ) (fell : Bool) (seat id : ℕ) → take_reply p s past ≡ gives id → IsCovered p s past cs fell → IsCovered p s (Take seat id ∷ past) cs fell
+pub covered_take : (p : Program) (s : Settings) (past : List Entry) (cs : ℕ → Bool) (fell : Bool) (seat id : ℕ) → take_reply p s past ≡ gives id → IsCovered p s past cs fell → IsCovered p s (Take seat id ∷ past) cs fell
 covered_take p s past cs fell seat id t k q b f =
     elim (cases_eq q id) [
       | inl same ↦
-          let over = (and_parts (is_over (state_of (Take seat id ∷ past) q) (is_open p past q)) (list_all (lets_go p s (Take seat id ∷ past) q) (ids_of p past)) f).0 in
+          let over = (and_parts (is_over (state_of (Take seat id ∷ past) q) (is_open p s past q)) (list_all (lets_go p s (Take seat id ∷ past) q) (ids_of p past)) f).0 in
           let now : state_of (Take seat id ∷ past) q ≡ out seat = cond-true (id == q) (out seat) (state_of past q) (eq-eqb id q (sym same)) in
-          absurd (true≢false (sym over ∙ ap (λ (u : State). is_over u (is_open p past q)) now))
+          absurd (true≢false (sym over ∙ ap (λ (u : State). is_over u (is_open p s past q)) now))
       | inr other ↦
           let stays : state_of (Take seat id ∷ past) q ≡ state_of past q = state_kept q id (state_of past q) (out seat) (λ e. other (sym e)) in
           candidate_stays cs cs fell fell past (Take seat id ∷ past) q (λ a. a) (λ a. a) stays
           (k q b (freeable_before p s past (Take seat id ∷ past) q (omega arith)
-          (over_same_state (state_of past q) (state_of (Take seat id ∷ past) q) (is_open p past q) stays)
+          (over_same_state (state_of past q) (state_of (Take seat id ∷ past) q) (is_open p s past q) stays)
           (λ c d. child_goes p s past (Take seat id ∷ past) q c refl (free_as c) refl) f))
     ]
   where
@@ -114,15 +92,16 @@ covered_take p s past cs fell seat id t k q b f =
           | inr other ↦ ap is_freed (state_kept c id (state_of past c) (out seat) (λ e. other (sym e)))
         ]
 
-pub covered_back : (p : Program) (s : Settings) (past : List Entry) (cs : List ℕ) (fell : Bool) (seat id : ℕ) → state_of past id ≡ out seat → IsCovered p s past cs fell → IsCovered p s (Back seat id ∷ past) (cs ++ id ∷ []) fell
-covered_back p s past cs fell seat id o k q b f =
+pub covered_back : (p : Program) (s : Settings) (past : List Entry) (cs cs' : ℕ → Bool) (fell : Bool) (seat id : ℕ) → state_of past id ≡ out seat → ((q : ℕ) → cs q ≡ true → cs' q ≡ true) → cs' id ≡ true
+    → IsCovered p s past cs fell → IsCovered p s (Back seat id ∷ past) cs' fell
+covered_back p s past cs cs' fell seat id o more here k q b f =
     elim (cases_eq q id) [
-      | inl same ↦ listed (cs ++ id ∷ []) fell (Back seat id ∷ past) q (among_new q cs (id ∷ []) (or_left (id == q) false (eq-eqb id q (sym same))))
+      | inl same ↦ listed cs' fell (Back seat id ∷ past) q (ap cs' same ∙ here)
       | inr other ↦
           let stays : state_of (Back seat id ∷ past) q ≡ state_of past q = state_kept q id (state_of past q) waiting (λ e. other (sym e)) in
-          candidate_stays cs (cs ++ id ∷ []) fell fell past (Back seat id ∷ past) q (among_append q cs (id ∷ [])) (λ a. a) stays
+          candidate_stays cs cs' fell fell past (Back seat id ∷ past) q (more q) (λ a. a) stays
           (k q b (freeable_before p s past (Back seat id ∷ past) q (omega arith)
-          (over_same_state (state_of past q) (state_of (Back seat id ∷ past) q) (is_open p past q) stays)
+          (over_same_state (state_of past q) (state_of (Back seat id ∷ past) q) (is_open p s past q) stays)
           (λ c d. child_goes p s past (Back seat id ∷ past) q c refl (free_as c) refl) f))
     ]
   where
@@ -141,16 +120,16 @@ best_stays p None (Some x) h = absurd (true≢false h)
 best_stays p (Some b) (Some x) h = cond-false (int_lt (value_of p x) b.value) (Some (record { value = value_of p x; point = x })) (Some b) h
 
 -- a put: its node and its new nodes are listed; and where the found point is better, the best value fell
-pub covered_put : (p : Program) (s : Settings) (past : List Entry) (cs new : List ℕ) (fell : Bool) (best : Option ℤ) (seat id : ℕ) (found : Option (List ℤ)) (low : ℤ) (next : Step)
-    → state_of past id ≡ out seat → best ≡ value_if (best_of p past)
-    → ((q : ℕ) → length (nodes_of p past) ≤ q → q < length (nodes_of p (Put seat id found low next ∷ past)) → is_among q new ≡ true)
-    → IsCovered p s past cs fell → IsCovered p s (Put seat id found low next ∷ past) (cs ++ id ∷ new) (fell || improves p best found)
-covered_put p s past cs new fell best seat id found low next o b born k q h f =
+pub covered_put : (p : Program) (s : Settings) (past : List Entry) (cs cs' : ℕ → Bool) (fell : Bool) (best : Option ℤ) (seat id : ℕ) (found : Option (List ℤ)) (low : ℤ) (next : Step)
+    → state_of past id ≡ out seat → best ≡ value_if (best_of p past) → ((q : ℕ) → cs q ≡ true → cs' q ≡ true) → cs' id ≡ true
+    → ((q : ℕ) → length (nodes_of p past) ≤ q → q < length (nodes_of p (Put seat id found low next ∷ past)) → cs' q ≡ true)
+    → IsCovered p s past cs fell → IsCovered p s (Put seat id found low next ∷ past) cs' (fell || improves p best found)
+covered_put p s past cs cs' fell best seat id found low next o b more here born k q h f =
     elim (cases_lt q (length (nodes_of p past))) [
-      | inr late ↦ listed (cs ++ id ∷ new) (fell || improves p best found) (Put seat id found low next ∷ past) q (among_new q cs (id ∷ new) (or_right (id == q) (is_among q new) (born q late h)))
+      | inr late ↦ listed cs' (fell || improves p best found) (Put seat id found low next ∷ past) q (born q late h)
       | inl early ↦
           elim (cases_eq q id) [
-            | inl same ↦ listed (cs ++ id ∷ new) (fell || improves p best found) (Put seat id found low next ∷ past) q (among_new q cs (id ∷ new) (or_left (id == q) (is_among q new) (eq-eqb id q (sym same))))
+            | inl same ↦ listed cs' (fell || improves p best found) (Put seat id found low next ∷ past) q (ap cs' same ∙ here)
             | inr other ↦ old early other (improves p best found) refl
           ]
     ]
@@ -175,11 +154,11 @@ covered_put p s past cs new fell best seat id found low next o b born k q h f =
     form_as : (c : ℕ) → c < length (nodes_of p past) → form_of p s (Put seat id found low next ∷ past) c ≡ form_of p s past c
     form_as c d = ap (λ (n : Node). cond (n.depth % s.span == 0) Explicit (encoded_form past c)) (same_node c d)
 
-    same_open : q < length (nodes_of p past) → improves p best found ≡ false → is_open p (Put seat id found low next ∷ past) q ≡ is_open p past q
+    same_open : q < length (nodes_of p past) → improves p best found ≡ false → is_open p s (Put seat id found low next ∷ past) q ≡ is_open p s past q
     same_open early worse =
         let none : best_with p (best_of p past) found ≡ best_of p past = best_stays p (best_of p past) found (ap (λ (v : Option ℤ). improves p v found) (sym b) ∙ worse) in
-        ap (λ (n : Node). has_point (full_along p n.path).lows (full_along p n.path).highs && is_below n.low (best_with p (best_of p past) found)) (same_node q early)
-        ∙ ap (λ (f : Option Found). has_point (full_of p past q).lows (full_of p past q).highs && is_below (node_at p past q).low f) none
+        ap (λ (n : Node). has_point (full_along p n.path).lows (full_along p n.path).highs && is_below n.low (value_less s.gap (best_with p (best_of p past) found))) (same_node q early)
+        ∙ ap (λ (f : Option Found). has_point (full_of p past q).lows (full_of p past q).highs && is_below (node_at p past q).low (value_less s.gap f)) none
 
     any_open : (t : State) (a b : Bool) → is_waiting t ≡ false → is_over t a ≡ true → is_over t b ≡ true
     any_open waiting a b w h = absurd (true≢false w)
@@ -189,34 +168,41 @@ covered_put p s past cs new fell best seat id found low next o b born k q h f =
     any_open freed a b w h = h
 
     freeable_then : q < length (nodes_of p past) → (q ≡ id → ⊥)
-        → (is_over (state_of past q) (is_open p (Put seat id found low next ∷ past) q) ≡ true → is_over (state_of past q) (is_open p past q) ≡ true) → is_freeable p s past q ≡ true
+        → (is_over (state_of past q) (is_open p s (Put seat id found low next ∷ past) q) ≡ true → is_over (state_of past q) (is_open p s past q) ≡ true) → is_freeable p s past q ≡ true
     freeable_then early other over =
         let stays : state_of (Put seat id found low next ∷ past) q ≡ state_of past q = state_kept q id (state_of past q) (put_state next) (λ e. other (sym e)) in
         freeable_before p s past (Put seat id found low next ∷ past) q longer
-        (λ g. over (over_same_state (state_of past q) (state_of (Put seat id found low next ∷ past) q) (is_open p (Put seat id found low next ∷ past) q) stays g))
+        (λ g. over (over_same_state (state_of past q) (state_of (Put seat id found low next ∷ past) q) (is_open p s (Put seat id found low next ∷ past) q) stays g))
         (λ c d. child_goes p s past (Put seat id found low next ∷ past) q c (same_node c d) (free_as c) (form_as c d)) f
 
-    kept : q < length (nodes_of p past) → (q ≡ id → ⊥) → is_freeable p s past q ≡ true → IsCandidate (cs ++ id ∷ new) (fell || improves p best found) (Put seat id found low next ∷ past) q
+    kept : q < length (nodes_of p past) → (q ≡ id → ⊥) → is_freeable p s past q ≡ true → IsCandidate cs' (fell || improves p best found) (Put seat id found low next ∷ past) q
     kept early other g =
-        candidate_stays cs (cs ++ id ∷ new) fell (fell || improves p best found) past (Put seat id found low next ∷ past) q (among_append q cs (id ∷ new)) (or_left fell (improves p best found))
+        candidate_stays cs cs' fell (fell || improves p best found) past (Put seat id found low next ∷ past) q (more q) (or_left fell (improves p best found))
         (state_kept q id (state_of past q) (put_state next) (λ e. other (sym e))) (k q early g)
 
     by_waiting : q < length (nodes_of p past) → (q ≡ id → ⊥) → improves p best found ≡ true → (t : Bool) → is_waiting (state_of past q) ≡ t
-        → IsCandidate (cs ++ id ∷ new) (fell || improves p best found) (Put seat id found low next ∷ past) q
+        → IsCandidate cs' (fell || improves p best found) (Put seat id found low next ∷ past) q
     by_waiting early other better true w =
-        or_right (is_among q (cs ++ id ∷ new)) ((fell || improves p best found) && is_waiting (state_of (Put seat id found low next ∷ past) q))
+        or_right (cs' q) ((fell || improves p best found) && is_waiting (state_of (Put seat id found low next ∷ past) q))
         (ap (λ (t : Bool). t && is_waiting (state_of (Put seat id found low next ∷ past) q)) (or_right fell (improves p best found) better)
         ∙ (ap is_waiting (state_kept q id (state_of past q) (put_state next) (λ e. other (sym e))) ∙ w))
     by_waiting early other better false w =
-        kept early other (freeable_then early other (any_open (state_of past q) (is_open p (Put seat id found low next ∷ past) q) (is_open p past q) w))
+        kept early other (freeable_then early other (any_open (state_of past q) (is_open p s (Put seat id found low next ∷ past) q) (is_open p s past q) w))
 
-    old : q < length (nodes_of p past) → (q ≡ id → ⊥) → (t : Bool) → improves p best found ≡ t → IsCandidate (cs ++ id ∷ new) (fell || improves p best found) (Put seat id found low next ∷ past) q
+    old : q < length (nodes_of p past) → (q ≡ id → ⊥) → (t : Bool) → improves p best found ≡ t → IsCandidate cs' (fell || improves p best found) (Put seat id found low next ∷ past) q
     old early other true better = by_waiting early other better (is_waiting (state_of past q)) refl
     old early other false worse = kept early other (freeable_then early other (λ g. ap (is_over (state_of past q)) (sym (same_open early worse)) ∙ g))
 
+-- the two new nodes are listed
+pub two_listed : (cs : ℕ → Bool) (n q : ℕ) → cs n ≡ true → cs (n + 1) ≡ true → n ≤ q → q < n + 2 → cs q ≡ true
+two_listed cs n q here next lo hi = elim (cases_eq q n) [
+  | inl e ↦ ap cs e ∙ here
+  | inr ne ↦ let e : q ≡ n + 1 = omega (arith, ne, lo, hi) in ap cs e ∙ next
+]
+
 -- another form of a node: its parent is listed
-pub covered_encode : (p : Program) (s : Settings) (past : List Entry) (cs cs' : List ℕ) (fell : Bool) (seat id : ℕ) (form : Form)
-    → ((q : ℕ) → is_among q cs ≡ true → is_among q cs' ≡ true) → ((q : ℕ) → (node_at p past id).parent ≡ Some q → is_among q cs' ≡ true)
+pub covered_encode : (p : Program) (s : Settings) (past : List Entry) (cs cs' : ℕ → Bool) (fell : Bool) (seat id : ℕ) (form : Form)
+    → ((q : ℕ) → cs q ≡ true → cs' q ≡ true) → ((q : ℕ) → (node_at p past id).parent ≡ Some q → cs' q ≡ true)
     → IsCovered p s past cs fell → IsCovered p s (Encode seat id form ∷ past) cs' fell
 covered_encode p s past cs cs' fell seat id form more parents k q b f = by_parent (is_parent (node_at p past id).parent q) refl
   where
@@ -241,19 +227,19 @@ covered_encode p s past cs cs' fell seat id form more parents k q b f = by_paren
         (k q b (freeable_before p s past (Encode seat id form ∷ past) q (omega arith) (λ g. g) (λ c d. goes h c) f))
 
 -- after a free what may be freed could be freed before
-pub covered_free : (p : Program) (s : Settings) (past : List Entry) (cs : List ℕ) (fell : Bool) (seat : ℕ) (ids : List ℕ)
+pub covered_free : (p : Program) (s : Settings) (past : List Entry) (cs : ℕ → Bool) (fell : Bool) (seat : ℕ) (ids : List ℕ)
     → ((q : ℕ) → q < length (nodes_of p past) → is_freeable p s (Free seat ids ∷ past) q ≡ true → is_freeable p s past q ≡ true)
     → IsCovered p s past cs fell → IsCovered p s (Free seat ids ∷ past) cs fell
 covered_free p s past cs fell seat ids before k q b f =
     candidate_stays cs cs fell fell past (Free seat ids ∷ past) q (λ a. a) (λ a. a) (stays (is_among q ids) refl) (k q b (before q b f))
   where
-    over : is_over (state_of (Free seat ids ∷ past) q) (is_open p past q) ≡ true
-    over = (and_parts (is_over (state_of (Free seat ids ∷ past) q) (is_open p past q)) (list_all (lets_go p s (Free seat ids ∷ past) q) (ids_of p past)) f).0
+    over : is_over (state_of (Free seat ids ∷ past) q) (is_open p s past q) ≡ true
+    over = (and_parts (is_over (state_of (Free seat ids ∷ past) q) (is_open p s past q)) (list_all (lets_go p s (Free seat ids ∷ past) q) (ids_of p past)) f).0
 
     stays : (t : Bool) → is_among q ids ≡ t → state_of (Free seat ids ∷ past) q ≡ state_of past q
     stays true a =
         let now : state_of (Free seat ids ∷ past) q ≡ freed = cond-true (is_among q ids) freed (state_of past q) a in
-        absurd (true≢false (sym over ∙ ap (λ (u : State). is_over u (is_open p past q)) now))
+        absurd (true≢false (sym over ∙ ap (λ (u : State). is_over u (is_open p s past q)) now))
     stays false a = cond-false (is_among q ids) freed (state_of past q) a
 
 -- fewer nodes stand after a free

@@ -44,46 +44,46 @@ linked_gone rs k h id within =
         subst (λ (o : Option ℕ). IsLinked (gone_at rs k) id o (depth_if (slice_get (gone_at rs k) id))) (sym e) (l.0, omega (arith, there, here, old))
 
 -- one more parent is freed
-pub freed_more : (best : Option ℤ) (ids : List ℕ) (rs : List Record) (k last q : ℕ) (after : List Record) → IsFreedTo best rs k ids last after → next_up best after last ≡ Some q
-    → IsFreedTo best rs k (ids ++ q ∷ []) q (gone_at after q)
-freed_more best [] rs k last q after f up =
-    (ap (λ (l : List Record). next_up best l k) (sym f.1) ∙ (ap (next_up best after) f.0 ∙ up), (refl, ap (λ (l : List Record). gone_at l q) f.1))
-freed_more best (i ∷ ids) rs k last q after f up = (f.0, freed_more best ids (gone_at rs k) i last q after f.1 up)
+pub freed_more : (cutoff : Option ℤ) (ids : List ℕ) (rs : List Record) (k last q : ℕ) (after : List Record) → IsFreedTo cutoff rs k ids last after → next_up cutoff after last ≡ Some q
+    → IsFreedTo cutoff rs k (ids ++ q ∷ []) q (gone_at after q)
+freed_more cutoff [] rs k last q after f up =
+    (ap (λ (l : List Record). next_up cutoff l k) (sym f.1) ∙ (ap (next_up cutoff after) f.0 ∙ up), (refl, ap (λ (l : List Record). gone_at l q) f.1))
+freed_more cutoff (i ∷ ids) rs k last q after f up = (f.0, freed_more cutoff ids (gone_at rs k) i last q after f.1 up)
 
 -- the next node up is the parent, has a record and may go
-pub record IsUp (best : Option ℤ) (rs : List Record) (k q : ℕ) : Type 0 where
+pub record IsUp (cutoff : Option ℤ) (rs : List Record) (k q : ℕ) : Type 0 where
   pub parent : parent_if (slice_get rs k) ≡ Some q
-  pub goes : may_go_at best rs q ≡ true
+  pub goes : may_go_at cutoff rs q ≡ true
   pub there : q < length rs
 
-pub up_is : (best : Option ℤ) (rs : List Record) (k q : ℕ) → next_up best rs k ≡ Some q → IsUp best rs k q
-up_is best rs k q e = by_parent (parent_if (slice_get rs k)) refl e
+pub up_is : (cutoff : Option ℤ) (rs : List Record) (k q : ℕ) → next_up cutoff rs k ≡ Some q → IsUp cutoff rs k q
+up_is cutoff rs k q e = by_parent (parent_if (slice_get rs k)) refl e
   where
-    has : (o : Option Record) → slice_get rs q ≡ o → may_go_if best rs o ≡ true → q < length rs
+    has : (o : Option Record) → slice_get rs q ≡ o → may_go_if cutoff rs o ≡ true → q < length rs
     has None s g = cc
     has (Some r) s g = slice_get_within rs q r s
 
-    by_test : (i : ℕ) (t : Bool) → may_go_at best rs i ≡ t → parent_if (slice_get rs k) ≡ Some i → cond t (Some i) None ≡ Some q → IsUp best rs k q
+    by_test : (i : ℕ) (t : Bool) → may_go_at cutoff rs i ≡ t → parent_if (slice_get rs k) ≡ Some i → cond t (Some i) None ≡ Some q → IsUp cutoff rs k q
     by_test i true g p f =
         let same : i ≡ q = cc in
-        let goes : may_go_at best rs q ≡ true = ap (may_go_at best rs) (sym same) ∙ g in
+        let goes : may_go_at cutoff rs q ≡ true = ap (may_go_at cutoff rs) (sym same) ∙ g in
         record { parent = p ∙ ap Some same; goes = goes; there = has (slice_get rs q) refl goes }
     by_test i false g p f = cc
 
-    by_parent : (o : Option ℕ) → parent_if (slice_get rs k) ≡ o → if_may_go best rs o ≡ Some q → IsUp best rs k q
+    by_parent : (o : Option ℕ) → parent_if (slice_get rs k) ≡ o → if_may_go cutoff rs o ≡ Some q → IsUp cutoff rs k q
     by_parent None p f = cc
-    by_parent (Some i) p f = by_test i (may_go_at best rs i) refl p f
+    by_parent (Some i) p f = by_test i (may_go_at cutoff rs i) refl p f
 
 pub record StepUp (rs : List Record) (k q : ℕ) : Type 0 where
   pub lower : q < k
   pub less_deep : depth_if (slice_get rs q) + 1 ≡ depth_if (slice_get rs k)
 
-pub step_up : (best : Option ℤ) (rs : List Record) (k q : ℕ) → AreLinked rs → k < length rs → next_up best rs k ≡ Some q → StepUp rs k q
-step_up best rs k q linked there e =
-    let l : IsLinked rs k (Some q) (depth_if (slice_get rs k)) = subst (λ (o : Option ℕ). IsLinked rs k o (depth_if (slice_get rs k))) (up_is best rs k q e).parent (linked k there) in
+pub step_up : (cutoff : Option ℤ) (rs : List Record) (k q : ℕ) → AreLinked rs → k < length rs → next_up cutoff rs k ≡ Some q → StepUp rs k q
+step_up cutoff rs k q linked there e =
+    let l : IsLinked rs k (Some q) (depth_if (slice_get rs k)) = subst (λ (o : Option ℕ). IsLinked rs k o (depth_if (slice_get rs k))) (up_is cutoff rs k q e).parent (linked k there) in
     record { lower = l.0; less_deep = l.1 }
 
-pub freeing_more : (best : Option ℤ) (rs : List Record) (k last q : ℕ) (ids : List ℕ) (after : List Record) → IsFreeingUp best rs k ids last after → next_up best after last ≡ Some q
-    → IsFreeingUp best rs k (ids ++ q ∷ []) q (gone_at after q)
-freeing_more best rs k last q ids after f up =
-    record { others = f.others ++ q ∷ []; chain = ap (λ (l : List ℕ). l ++ q ∷ []) f.chain; freed = freed_more best f.others rs k last q after f.freed up }
+pub freeing_more : (cutoff : Option ℤ) (rs : List Record) (k last q : ℕ) (ids : List ℕ) (after : List Record) → IsFreeingUp cutoff rs k ids last after → next_up cutoff after last ≡ Some q
+    → IsFreeingUp cutoff rs k (ids ++ q ∷ []) q (gone_at after q)
+freeing_more cutoff rs k last q ids after f up =
+    record { others = f.others ++ q ∷ []; chain = ap (λ (l : List ℕ). l ++ q ∷ []) f.chain; freed = freed_more cutoff f.others rs k last q after f.freed up }

@@ -11,14 +11,14 @@ use Rattle.bl_journal.specs.declared.entry.Entry.{Entry}
 use Rattle.bl_journal.specs.declared.settings.Settings.{Settings}
 use Rattle.bl_journal.specs.Births.{nodes_of, node_at}
 use Rattle.bl_journal.specs.Descriptions.{full_of}
-use Rattle.bl_journal.specs.States.{State, state_of, form_of, is_open, is_below, has_point, best_of, value_if, Found}
+use Rattle.bl_journal.specs.States.{State, state_of, form_of, is_open, is_below, has_point, cutoff_for}
 use Rattle.bl_journal.specs.Replies.{ids_of, ids_below}
 use Rattle.bl_journal.specs.Pieces.{is_freed, stored_of, piece_in, difference_from}
 use Rattle.bl_journal.specs.Freeing.{is_parent, is_explicit, lets_go, is_over, is_freeable}
 use Rattle.bl_tree.specs.declared.record.Record.{Record}
 use Rattle.bl_tree.specs.declared.record.Stage.{Stage}
 use Rattle.bl_tree.specs.declared.record.Stage.TheVariants.{Waiting, Out, Parted, Closed, Gone}
-use Rattle.bl_tree.specs.Records.{stage_state, is_below_value, is_child_in, is_relative, holds_if, is_held, is_over_stage, may_go_at, may_go_if, IsRecordOf, IsStoredOf, AreRecords, AreStored}
+use Rattle.bl_tree.specs.Records.{stage_state, is_child_in, is_relative, holds_if, is_held, is_over_stage, may_go_at, may_go_if, IsRecordOf, IsStoredOf, AreRecords, AreStored}
 use Rattle.bl_journal.proofs.Meaning.{Has}
 use Rattle.bl_tree.proofs.Kept.{has_record}
 
@@ -128,17 +128,12 @@ held_same p s past kept id r rs st e = bool_same _ _ (λ h. all_ids (lets_go p s
         ap (λ (o : Option ℕ). not (is_held kept o)) c ∙ (ap (λ (t : Bool). not (t || holds_if (slice_get kept (i + 1)))) first ∙ ap not second)
 
 -- a record says whether its node is open
-pub open_same : (p : Program) (past : List Entry) (id : ℕ) (r : Record) (best : Option ℤ) → best ≡ value_if (best_of p past) → IsRecordOf p past id r
-    → (r.has_point && is_below_value r.low best) ≡ is_open p past id
-open_same p past id r best b f =
-    ap (λ (t : Bool). t && is_below_value r.low best) f.has_point
-    ∙ (ap (λ (z : ℤ). has_point (full_of p past id).lows (full_of p past id).highs && is_below_value z best) f.low
-    ∙ (ap (λ (o : Option ℤ). has_point (full_of p past id).lows (full_of p past id).highs && is_below_value (node_at p past id).low o) b
-    ∙ ap (λ (t : Bool). has_point (full_of p past id).lows (full_of p past id).highs && t) (below (node_at p past id).low (best_of p past))))
-  where
-    below : (n : ℤ) (o : Option Found) → is_below_value n (value_if o) ≡ is_below n o
-    below n None = refl
-    below n (Some b) = refl
+pub open_same : (p : Program) (s : Settings) (past : List Entry) (id : ℕ) (r : Record) (cutoff : Option ℤ) → cutoff ≡ cutoff_for p s past → IsRecordOf p past id r
+    → (r.has_point && is_below r.low cutoff) ≡ is_open p s past id
+open_same p s past id r cutoff b f =
+    ap (λ (t : Bool). t && is_below r.low cutoff) f.has_point
+    ∙ (ap (λ (z : ℤ). has_point (full_of p past id).lows (full_of p past id).highs && is_below z cutoff) f.low
+    ∙ ap (λ (o : Option ℤ). has_point (full_of p past id).lows (full_of p past id).highs && is_below (node_at p past id).low o) b)
 
 over_same : (t : Stage) (b : Bool) → is_over_stage t b ≡ is_over (stage_state t) b
 over_same Waiting b = refl
@@ -148,17 +143,17 @@ over_same Closed b = refl
 over_same Gone b = refl
 
 -- a node may be freed where its record says so
-pub may_go_same : (p : Program) (s : Settings) (past : List Entry) (kept : List Record) (best : Option ℤ) (id : ℕ) → AreRecords p past kept → AreStored p s past kept → best ≡ value_if (best_of p past) → id < length (nodes_of p past)
-    → may_go_at best kept id ≡ is_freeable p s past id
-may_go_same p s past kept best id rs st b born =
+pub may_go_same : (p : Program) (s : Settings) (past : List Entry) (kept : List Record) (cutoff : Option ℤ) (id : ℕ) → AreRecords p past kept → AreStored p s past kept → cutoff ≡ cutoff_for p s past → id < length (nodes_of p past)
+    → may_go_at cutoff kept id ≡ is_freeable p s past id
+may_go_same p s past kept cutoff id rs st b born =
     let c : length kept ≡ length (nodes_of p past) = rs.count in
     let x = has_record p past kept id rs (omega (arith, born, c)) in
     let r : Record = x.0 in
     let f = rs.each id r x.1 in
-    ap (may_go_if best kept) x.1
-    ∙ (ap (λ (t : Bool). is_over_stage r.stage t && not (is_held kept r.children)) (open_same p past id r best b f)
-    ∙ (ap (λ (t : Bool). t && not (is_held kept r.children)) (over_same r.stage (is_open p past id) ∙ ap (λ (u : State). is_over u (is_open p past id)) f.stage)
-    ∙ ap (λ (t : Bool). is_over (state_of past id) (is_open p past id) && t) (held_same p s past kept id r rs st x.1)))
+    ap (may_go_if cutoff kept) x.1
+    ∙ (ap (λ (t : Bool). is_over_stage r.stage t && not (is_held kept r.children)) (open_same p s past id r cutoff b f)
+    ∙ (ap (λ (t : Bool). t && not (is_held kept r.children)) (over_same r.stage (is_open p s past id) ∙ ap (λ (u : State). is_over u (is_open p s past id)) f.stage)
+    ∙ ap (λ (t : Bool). is_over (state_of past id) (is_open p s past id) && t) (held_same p s past kept id r rs st x.1)))
 
 cond_some : (t : Bool) (x i : ℕ) (o o' : Option ℕ) → cond t (Some x) o ≡ Some i → (o ≡ Some i → o' ≡ Some i) → cond t (Some x) o' ≡ Some i
 cond_some true x i o o' e f = e

@@ -63,7 +63,7 @@ best_value_same p (Some b) (Some x) =
     by_bool false = refl
 
 pub kept_shut : (p : Program) (s : Settings) (past : List Entry) (room room' capacity : ℕ) (kept : List Record) (taken : ℕ) (best : Option ℤ) (id seat : ℕ) (found : Option (List ℤ)) (low : ℤ) (r : Record)
-    → IsKept p s past room capacity kept taken best → MayPut p past seat id found low Shut → slice_get kept id ≡ Some r → room' + 1 ≡ room
+    → IsKept p s past room capacity kept taken best → MayPut p s past seat id found low Shut → slice_get kept id ≡ Some r → room' + 1 ≡ room
     → IsKept p s (Put seat id found low Shut ∷ past) room' capacity (slice_set kept id (record r { stage = Closed })) taken (best_value_with p best found)
 kept_shut p s past room room' capacity kept taken best id seat found low r k may e less =
     let c = count_by-set (λ (q : Record). is_out_stage q.stage) kept id (record r { stage = Closed }) r e in
@@ -93,6 +93,8 @@ kept_shut p s past room room' capacity kept taken best id seat found low r k may
       size = omega (arith, c, one, size, same);
       budget = k.budget;
       few = k.few;
+      gap_some = k.gap_some;
+      gap_few = k.gap_few;
     }
 
 -- the pieces of the two children, of which the first has the number n
@@ -102,7 +104,7 @@ pub record ChildPieces (p : Program) (s : Settings) (past : List Entry) (left ri
 
 pub kept_split : (p : Program) (s : Settings) (past : List Entry) (room room' capacity : ℕ) (kept : List Record) (taken : ℕ) (best : Option ℤ) (id seat : ℕ) (found : Option (List ℤ)) (low : ℤ)
     (common : Change Cut) (column : ℕ) (at : ℤ) (r : Record) (lo ro : Bool) (left right : Piece Cut)
-    → IsKept p s past room capacity kept taken best → MayPut p past seat id found low (Split common column at) → slice_get kept id ≡ Some r → room' + 1 ≡ room
+    → IsKept p s past room capacity kept taken best → MayPut p s past seat id found low (Split common column at) → slice_get kept id ≡ Some r → room' + 1 ≡ room
     → lo ≡ box_has_point (full_of p (Put seat id found low (Split common column at) ∷ past) (length (nodes_of p past)))
     → ro ≡ box_has_point (full_of p (Put seat id found low (Split common column at) ∷ past) (length (nodes_of p past) + 1))
     → ChildPieces p s (Put seat id found low (Split common column at) ∷ past) left right (length (nodes_of p past))
@@ -130,7 +132,7 @@ kept_split p s past room room' capacity kept taken best id seat found low common
       storage = stored_split p s past kept seat id found low common column at r (child_record id r low lo left) (child_record id r low ro right) left right k.legal may k.storage k.records.count e
           (not_parted r.stage (state_of past id) (k.records.each id r e).stage (ap is_over_by_split may.is_out))
           refl refl refl refl refl refl pieces.left_is pieces.right_is;
-      records = records_split p past kept seat id found low common column at r lo ro left right (shape p s past k.legal) may k.records e el er;
+      records = records_split p s past kept seat id found low common column at r lo ro left right (shape p s past k.legal) may k.records e el er;
       used = k.used;
       best_is = ap (λ o. best_value_with p o found) k.best_is ∙ best_value_same p (best_of p past) found;
       room_is = omega (arith, c, all, one, before, less);
@@ -139,11 +141,13 @@ kept_split p s past room room' capacity kept taken best id seat found low common
       size = omega (arith, c, all, one, size, same, longer);
       budget = k.budget;
       few = k.few;
+      gap_some = k.gap_some;
+      gap_few = k.gap_few;
     }
 
 -- what a call of put may rest on, over the parts of the tree
 pub record PutFacts (p : Program) (s : Settings) (history : List Entry) (seat id : ℕ) (lease : LeaseView) (outcome : Outcome) (next : Next) : Type 0 where
-  pub may : MayPut p (reverse history) seat id outcome.found outcome.low (step_of next)
+  pub may : MayPut p s (reverse history) seat id outcome.found outcome.low (step_of next)
   pub chain : rebuilt lease.chain ≡ Some (full_of p (reverse history) id)
   pub pieces : PiecesStored (record { problem = p; settings = s; history = history ++ Put seat id outcome.found outcome.low (step_of next) ∷ [] }) next
 
@@ -205,10 +209,10 @@ split_done p s history entries room room' capacity capacity' kept one two taken 
     let pieces = split_pieces p s history seat id lease outcome common column at left right f in
     let lf : lo ≡ box_has_point (full_of p (e0 ∷ reverse history) (length (nodes_of p (reverse history)))) =
     opens_left ∙ (ap (λ (d : Desc Cut). box_has_point (left_child (changed common d) column at)) is_full
-    ∙ ap box_has_point (sym (left_follows p (reverse history) seat id outcome.found outcome.low common column at f.may))) in
+    ∙ ap box_has_point (sym (left_follows p s (reverse history) seat id outcome.found outcome.low common column at f.may))) in
     let rf : ro ≡ box_has_point (full_of p (e0 ∷ reverse history) (length (nodes_of p (reverse history)) + 1)) =
     opens_right ∙ (ap (λ (d : Desc Cut). box_has_point (right_child (changed common d) column at)) is_full
-    ∙ ap box_has_point (sym (right_follows p (reverse history) seat id outcome.found outcome.low common column at f.may))) in
+    ∙ ap box_has_point (sym (right_follows p s (reverse history) seat id outcome.found outcome.low common column at f.may))) in
     let f1 : r1 ≡ child_record id r outcome.low lo left = e1 ∙ ap (λ z. fresh_record id (r.depth + 1) z lo left) lows in
     let f2 : r2 ≡ child_record id r outcome.low ro right = e2 ∙ ap (λ z. fresh_record id (r.depth + 1) z ro right) lows in
     let set : ℕ → List Record = λ m. slice_set kept id (parted m r) in

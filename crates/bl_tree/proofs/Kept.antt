@@ -1,5 +1,5 @@
 -- The records follow the history.
-use Rattle.std.proofs.Common.{◌≡◌, ℕ, zero, suc, ◌+◌, ◌-◌, ◌*◌, ◌<◌, ◌≤◌, List, [], ◌∷◌, ◌++◌, length, refl, ap, sym, ◌∙◌, subst, arith, Bool, true, false, Some, None, Option, length-set}
+use Rattle.std.proofs.Common.{◌≡◌, ℕ, zero, suc, ◌+◌, ◌-◌, ◌*◌, ◌<◌, ◌≤◌, List, [], ◌∷◌, ◌++◌, length, refl, ap, sym, ◌∙◌, subst, arith, Bool, true, false, Some, Option, length-set}
 use Rattle.std.specs.Prelude.{slice_get, slice_set, count_by, reverse, ℤ, ◌==◌, nat_lt}
 use Rattle.std.proofs.lemmas.Bool.{eq-eqb, cond-true}
 use Rattle.bl_problem.specs.Program.{Program}
@@ -11,23 +11,19 @@ use Rattle.bl_tree.specs.declared.record.Stage.{Stage}
 use Rattle.bl_tree.specs.declared.record.Stage.TheVariants.{Waiting, Out, Parted, Closed, Gone}
 use Rattle.bl_journal.specs.Births.{nodes_of, node_at}
 use Rattle.bl_journal.specs.Descriptions.{full_of}
-use Rattle.bl_journal.specs.States.{State, waiting, out, split, shut, freed, state_of, has_point, used_of, best_of, value_if}
-use Rattle.bl_journal.specs.States.{is_below, Found}
-use Rattle.bl_journal.specs.declared.settings.Order.{Order}
-use Rattle.bl_journal.specs.declared.settings.Order.TheVariants.{Best, Depth}
-use Rattle.bl_journal.specs.Replies.{reply_for, first_below, next_of, waits_live, goes_before, is_waiting, is_out, any_out, any_below, take_reply, gives}
+use Rattle.bl_journal.specs.States.{State, waiting, out, split, shut, freed, state_of, has_point, used_of, is_below, cutoff_for}
+use Rattle.bl_journal.specs.Replies.{reply_for, next_of, waits_live, is_waiting, is_out, any_out, any_below, take_reply, gives}
 use Rattle.bl_journal.proofs.Living.{take_gives}
-use Rattle.bl_tree.proofs.Searches.{first_below-same}
 use Rattle.bl_journal.proofs.Growth.{reverse-push}
 use Rattle.bl_tree.proofs.Sets.{count_by-set, records_set, same_box}
 use Rattle.bl_tree.proofs.Stored.{stored_stage}
 use Rattle.bl_problem.specs.declared.cut.Cut.{Cut}
 use Rattle.bl_desc.specs.declared.desc.Piece.{Piece}
-use Rattle.bl_tree.specs.Views.{TreeView, LeaseView}
+use Rattle.bl_tree.specs.Views.{TreeView, LeaseView, past_of}
 use Rattle.bl_tree.specs.Calls.{IsTaken}
 use Rattle.bl_journal.specs.Pieces.{is_freed, stored_of, chain_along, chained, chain_of, rebuilt}
 use Rattle.bl_journal.specs.States.{cutoff_of}
-use Rattle.bl_tree.specs.Records.{stage_state, is_out_stage, is_waiting_stage, is_out_if, is_below_value, waits, waits_if, precedes, precedes_if, was_parted, IsRecordOf, AreRecords, IsKept}
+use Rattle.bl_tree.specs.Records.{stage_state, is_out_stage, is_waiting_stage, is_out_if, waits, was_parted, IsRecordOf, AreRecords, IsKept}
 use Rattle.bl_journal.proofs.Sums.{one_if}
 use Rattle.bl_journal.proofs.Leaves.{shape, out_born, state_kept, is_waiting-is}
 
@@ -105,6 +101,8 @@ kept_back p s past room room' capacity kept taken best id seat r k o e less =
       size = omega (arith, c, one, outs, size, same);
       budget = omega (arith, budget);
       few = k.few;
+      gap_some = k.gap_some;
+      gap_few = k.gap_few;
     }
 
 pub has_record : (p : Program) (past : List Entry) (kept : List Record) (i : ℕ) → AreRecords p past kept → i < length kept → (r : Record) × (slice_get kept i ≡ Some r)
@@ -116,11 +114,11 @@ has_record p past kept i rs h = some_at kept i h
     some_at (x ∷ xs) (suc i) h = some_at xs i (omega arith)
 
 -- the record's tests are those of the node
-pub waits_same : (p : Program) (past : List Entry) (i : ℕ) (r : Record) (best : Option ℤ) → best ≡ value_if (best_of p past) → IsRecordOf p past i r → waits best r ≡ waits_live p past i
-waits_same p past i r best b f =
+pub waits_same : (p : Program) (s : Settings) (past : List Entry) (i : ℕ) (r : Record) (cutoff : Option ℤ) → cutoff ≡ cutoff_for p s past → IsRecordOf p past i r → waits cutoff r ≡ waits_live p s past i
+waits_same p s past i r cutoff b f =
     let w : is_waiting_stage r.stage ≡ is_waiting (state_of past i) = same_stage r.stage ∙ ap is_waiting f.stage in
-    let v : is_below_value r.low best ≡ is_below (node_at p past i).low (best_of p past) =
-    ap (λ o. is_below_value r.low o) b ∙ (ap (λ n. is_below_value n (value_if (best_of p past))) f.low ∙ same_below (node_at p past i).low (best_of p past)) in
+    let v : is_below r.low cutoff ≡ is_below (node_at p past i).low (cutoff_for p s past) =
+    ap (λ o. is_below r.low o) b ∙ ap (λ n. is_below n (cutoff_for p s past)) f.low in
     let h : r.has_point ≡ has_point (full_of p past i).lows (full_of p past i).highs = f.has_point in
     cc
   where
@@ -131,36 +129,12 @@ waits_same p past i r best b f =
     same_stage Closed = refl
     same_stage Gone = refl
 
-    same_below : (n : ℤ) (o : Option Found) → is_below_value n (value_if o) ≡ is_below n o
-    same_below n None = refl
-    same_below n (Some b) = refl
-
 pub out_same : (t : Stage) → is_out_stage t ≡ is_out (stage_state t)
 out_same Waiting = refl
 out_same (Out seat) = refl
 out_same Parted = refl
 out_same Closed = refl
 out_same Gone = refl
-
-pub precedes_same : (p : Program) (past : List Entry) (order : Order) (i j : ℕ) (a b : Record) → IsRecordOf p past i a → IsRecordOf p past j b
-    → precedes order a b ≡ goes_before order (node_at p past i) (node_at p past j)
-precedes_same p past Best i j a b f g =
-    let x : a.low ≡ (node_at p past i).low = f.low in let y : b.low ≡ (node_at p past j).low = g.low in cc
-precedes_same p past Depth i j a b f g =
-    let x : a.low ≡ (node_at p past i).low = f.low in let y : b.low ≡ (node_at p past j).low = g.low in
-    let u : a.depth ≡ (node_at p past i).depth = f.depth in let v : b.depth ≡ (node_at p past j).depth = g.depth in cc
-
--- the first among the records is the next node
-pub next_same : (p : Program) (s : Settings) (past : List Entry) (kept : List Record) (best : Option ℤ) → AreRecords p past kept → best ≡ value_if (best_of p past)
-    → first_below (λ i j. precedes_if s.order (slice_get kept i) (slice_get kept j)) (λ i. waits_if best (slice_get kept i)) (length kept) ≡ next_of p s past
-next_same p s past kept best rs b =
-    first_below-same (λ i j. precedes_if s.order (slice_get kept i) (slice_get kept j)) (λ i j. goes_before s.order (node_at p past i) (node_at p past j))
-    (λ i. waits_if best (slice_get kept i)) (waits_live p past) (length kept)
-    (λ i j hi hj. let x = has_record p past kept i rs hi in let y = has_record p past kept j rs hj in
-    ap (λ o. precedes_if s.order o (slice_get kept j)) x.1 ∙ (ap (λ o. precedes_if s.order (Some x.0) o) y.1
-    ∙ precedes_same p past s.order i j x.0 y.0 (rs.each i x.0 x.1) (rs.each j y.0 y.1)))
-    (λ i hi. let x = has_record p past kept i rs hi in ap (waits_if best) x.1 ∙ waits_same p past i x.0 best b (rs.each i x.0 x.1))
-    ∙ ap (first_below (λ i j. goes_before s.order (node_at p past i) (node_at p past j)) (waits_live p past)) rs.count
 
 any_below-same : (f g : ℕ → Bool) (n : ℕ) → ((i : ℕ) → i < n → f i ≡ g i) → any_below f n ≡ any_below g n
 any_below-same f g zero h = refl
@@ -207,6 +181,8 @@ kept_take p s past room room' capacity capacity' kept taken best id seat r k t e
       size = omega (arith, c, none, size, same);
       budget = omega (arith, left);
       few = k.few;
+      gap_some = k.gap_some;
+      gap_few = k.gap_few;
     }
   where
     not_out : (t : Stage) → is_waiting (stage_state t) ≡ true → is_out_stage t ≡ false
@@ -216,23 +192,26 @@ kept_take p s past room room' capacity capacity' kept taken best id seat r k t e
     not_out Closed h = refl
     not_out Gone h = refl
 
+-- the reply, by the next node
 pub kept_reply : (p : Program) (s : Settings) (past : List Entry) (room capacity : ℕ) (kept : List Record) (taken : ℕ) (best : Option ℤ) → IsKept p s past room capacity kept taken best
-    → (xs : List Record) → xs ≡ kept → (first : Option ℕ)
-    → first ≡ first_below (λ i j. precedes_if s.order (slice_get xs i) (slice_get xs j)) (λ i. waits_if best (slice_get xs i)) (length xs)
-    → take_reply p s past ≡ reply_for first (nat_lt taken s.nodes) (any_out p past)
+    → (first : Option ℕ) → first ≡ next_of p s past → take_reply p s past ≡ reply_for first (nat_lt taken s.nodes) (any_out p past)
 unfolding take_reply
-kept_reply p s past room capacity kept taken best k xs same first f =
-    let P : List Record → Type 0 = λ ys. first ≡ first_below (λ i j. precedes_if s.order (slice_get ys i) (slice_get ys j)) (λ i. waits_if best (slice_get ys i)) (length ys) in
-    let a : first ≡ next_of p s past = subst P same f ∙ next_same p s past kept best k.records k.best_is in
+kept_reply p s past room capacity kept taken best k first a =
     let d : taken ≡ used_of past = k.used in
     cc
+
+pub kept_next : (p : Program) (s : Settings) (history : List Entry) (room capacity : ℕ) (kept : List Record) (taken : ℕ) (best : Option ℤ) (t : TreeView) → IsKept p s (reverse history) room capacity kept taken best
+    → (record { problem = p; settings = s; history = history }) ≡ t → (first : Option ℕ) → first ≡ next_of t.problem t.settings (past_of t)
+    → take_reply p s (reverse history) ≡ reply_for first (nat_lt taken s.nodes) (any_out p (reverse history))
+kept_next p s history room capacity kept taken best t k view first is =
+    kept_reply p s (reverse history) room capacity kept taken best k first (is ∙ ap (λ (v : TreeView). next_of v.problem v.settings (past_of v)) (sym view))
 
 -- more room
 pub kept_room : (p : Program) (s : Settings) (past : List Entry) (room room' capacity capacity' : ℕ) (kept : List Record) (taken : ℕ) (best : Option ℤ) → IsKept p s past room capacity kept taken best
     → room ≤ room' → capacity ≤ capacity' → IsKept p s past room' capacity' kept taken best
 kept_room p s past room room' capacity capacity' kept taken best k more wider =
     let r : count_by (λ r. is_out_stage r.stage) kept ≤ room = k.room_is in
-    record { legal = k.legal; span_some = k.span_some; span_few = k.span_few; storage = k.storage; records = k.records; used = k.used; best_is = k.best_is; room_is = omega (arith, r, more); capacity_is = let cap : length kept + 2 * count_by (λ r. is_out_stage r.stage) kept ≤ capacity = k.capacity_is in omega (arith, cap, wider); outs = k.outs; size = k.size; budget = k.budget; few = k.few }
+    record { legal = k.legal; span_some = k.span_some; span_few = k.span_few; storage = k.storage; records = k.records; used = k.used; best_is = k.best_is; room_is = omega (arith, r, more); capacity_is = let cap : length kept + 2 * count_by (λ r. is_out_stage r.stage) kept ≤ capacity = k.capacity_is in omega (arith, cap, wider); outs = k.outs; size = k.size; budget = k.budget; few = k.few; gap_some = k.gap_some; gap_few = k.gap_few }
 
 -- pieces that stay as they were give the same chain
 pub chain_along-same : (p : Program) (s : Settings) (past past' : List Entry) → ((k : ℕ) → stored_of p s past' k ≡ stored_of p s past k) → (ids : List ℕ) (chain : List (Piece Cut))
@@ -242,19 +221,19 @@ chain_along-same p s past past' same (i ∷ ids) chain =
     ap (λ (q : Piece Cut). chain_along p s past' (chained chain q) ids) (same i) ∙ chain_along-same p s past past' same ids (chained chain (stored_of p s past i))
 
 -- the lease of a node that was just taken
-pub taken_lease : (p : Program) (s : Settings) (history : List Entry) (kept : List Record) (best : Option ℤ) (id seat : ℕ) (r : Record) (chain : List (Piece Cut))
-    → AreRecords p (reverse history) kept → best ≡ value_if (best_of p (reverse history)) → slice_get kept id ≡ Some r
+pub taken_lease : (p : Program) (s : Settings) (history : List Entry) (kept : List Record) (cutoff : Option ℤ) (id seat : ℕ) (r : Record) (chain : List (Piece Cut))
+    → AreRecords p (reverse history) kept → cutoff ≡ cutoff_for p s (reverse history) → slice_get kept id ≡ Some r
     → chain ≡ chain_of p s (reverse history) id → rebuilt chain ≡ Some (full_of p (reverse history) id)
     → take_reply p s (reverse history) ≡ gives id
-    → IsTaken (record { problem = p; settings = s; history = history }) seat (record { id = id; depth = r.depth; low = r.low; cutoff = best; chain = chain })
+    → IsTaken (record { problem = p; settings = s; history = history }) seat (record { id = id; depth = r.depth; low = r.low; cutoff = cutoff; chain = chain })
     (record { problem = p; settings = s; history = history ++ Take seat id ∷ [] })
-taken_lease p s history kept best id seat r chain rs b e is rebuilds t =
+taken_lease p s history kept cutoff id seat r chain rs b e is rebuilds t =
     let past : List Entry = reverse history in
     let f = rs.each id r e in
     let self : (id == id) ≡ true = eq-eqb id id refl in
     let turned : reverse (history ++ Take seat id ∷ []) ≡ Take seat id ∷ past = reverse-push history (Take seat id) in
     let o : state_of (Take seat id ∷ past) id ≡ out seat = cond-true (id == id) (out seat) (state_of past id) self in
-    let c : best ≡ cutoff_of p (Take seat id ∷ past) id = b ∙ sym (cond-true (id == id) (value_if (best_of p past)) (cutoff_of p past id) self) in
+    let c : cutoff ≡ cutoff_of p s (Take seat id ∷ past) id = b ∙ sym (cond-true (id == id) (cutoff_for p s past) (cutoff_of p s past id) self) in
     let ch : chain ≡ chain_of p s (Take seat id ∷ past) id =
     is ∙ sym (chain_along-same p s past (Take seat id ∷ past) (λ k. refl) ((node_at p past id).ancestors ++ id ∷ []) []) in
     record {
@@ -264,7 +243,7 @@ taken_lease p s history kept best id seat r chain rs b e is rebuilds t =
         is_out = ap (λ h. state_of h id) turned ∙ o;
         depth = f.depth ∙ ap (λ h. (node_at p h id).depth) (sym turned);
         low = f.low ∙ ap (λ h. (node_at p h id).low) (sym turned);
-        cutoff = c ∙ ap (λ h. cutoff_of p h id) (sym turned);
+        cutoff = c ∙ ap (λ h. cutoff_of p s h id) (sym turned);
         chain = rebuilds ∙ ap (λ h. Some (full_of p h id)) (sym turned);
       };
       chain = ch ∙ ap (λ h. chain_of p s h id) (sym turned);

@@ -8,9 +8,13 @@ pub mod Counted
 pub mod Standing
 pub mod Lows
 pub mod Roots
-pub mod Waits
+pub mod Outs
+mod Keys
+pub mod Queues
+mod Least
 mod Freeings
 mod Stored
+mod Values
 mod Goes
 mod Climbing
 mod Candidates

@@ -17,7 +17,7 @@ use Rattle.bl_journal.specs.declared.entry.Entry.{Entry}
 use Rattle.bl_journal.specs.declared.settings.Settings.{Settings}
 use Rattle.bl_journal.specs.Births.{nodes_of, node_at}
 use Rattle.bl_journal.specs.Descriptions.{full_of}
-use Rattle.bl_journal.specs.States.{form_of, State, waiting, out, split, shut, freed, state_of, is_live, is_live_in, is_open, best_of, value_if, Found}
+use Rattle.bl_journal.specs.States.{form_of, State, waiting, out, split, shut, freed, state_of, is_live, is_live_in, is_open, cutoff_for, best_of, Found}
 use Rattle.bl_journal.specs.Replies.{ids_below, is_waiting, is_out}
 use Rattle.bl_journal.specs.Pieces.{stored_of, piece_in, difference_from, held_of, is_freed}
 use Rattle.bl_journal.specs.Results.{live_ids, lows_of, answer_of, answer_for}
@@ -31,54 +31,54 @@ use Rattle.bl_tree.specs.Answers.{stored_for, verdict_from}
 use Rattle.bl_tree.proofs.Kept.{has_record, waits_same, out_same}
 
 -- a record lives where its node does
-pub lives_same : (p : Program) (past : List Entry) (i : ℕ) (r : Record) (best : Option ℤ) → best ≡ value_if (best_of p past) → IsRecordOf p past i r → lives best r ≡ is_live p past i
-lives_same p past i r best b f =
-    let w : waits best r ≡ (is_waiting (state_of past i) && is_open p past i) = waits_same p past i r best b f in
+pub lives_same : (p : Program) (s : Settings) (past : List Entry) (i : ℕ) (r : Record) (cutoff : Option ℤ) → cutoff ≡ cutoff_for p s past → IsRecordOf p past i r → lives cutoff r ≡ is_live p s past i
+lives_same p s past i r cutoff b f =
+    let w : waits cutoff r ≡ (is_waiting (state_of past i) && is_open p s past i) = waits_same p s past i r cutoff b f in
     let o : is_out_stage r.stage ≡ is_out (state_of past i) = out_same r.stage ∙ ap is_out f.stage in
-    ap (λ (t : Bool). t || waits best r) o ∙ (ap (λ (t : Bool). is_out (state_of past i) || t) w ∙ by_state (state_of past i))
+    ap (λ (t : Bool). t || waits cutoff r) o ∙ (ap (λ (t : Bool). is_out (state_of past i) || t) w ∙ by_state (state_of past i))
   where
-    by_state : (s : State) → (is_out s || (is_waiting s && is_open p past i)) ≡ is_live_in s (is_open p past i)
+    by_state : (t : State) → (is_out t || (is_waiting t && is_open p s past i)) ≡ is_live_in t (is_open p s past i)
     by_state waiting = refl
     by_state (out seat) = refl
     by_state split = refl
     by_state shut = refl
     by_state freed = refl
 
-lows_below : (p : Program) (past : List Entry) (kept : List Record) (best : Option ℤ) → best ≡ value_if (best_of p past) → AreRecords p past kept → (n : ℕ) → n ≤ length kept
-    → live_lows best (take n kept) ≡ lows_of p past (filter (is_live p past) (ids_below n))
-lows_below p past kept best b rs zero h = refl
-lows_below p past kept best b rs (suc n) h =
+lows_below : (p : Program) (s : Settings) (past : List Entry) (kept : List Record) (cutoff : Option ℤ) → cutoff ≡ cutoff_for p s past → AreRecords p past kept → (n : ℕ) → n ≤ length kept
+    → live_lows cutoff (take n kept) ≡ lows_of p past (filter (is_live p s past) (ids_below n))
+lows_below p s past kept cutoff b rs zero h = refl
+lows_below p s past kept cutoff b rs (suc n) h =
     let within : n < length kept = omega (arith, h) in
     let x = has_record p past kept n rs within in
     let r : Record = x.0 in
     let is : get_or kept n r ≡ r = get_or_from_slice_get kept n r r x.1 in
     let f : IsRecordOf p past n r = rs.each n r x.1 in
-    let ih : live_lows best (take n kept) ≡ lows_of p past (filter (is_live p past) (ids_below n)) = lows_below p past kept best b rs n (omega (arith, h)) in
+    let ih : live_lows cutoff (take n kept) ≡ lows_of p past (filter (is_live p s past) (ids_below n)) = lows_below p s past kept cutoff b rs n (omega (arith, h)) in
     let low : Record → ℤ = λ q. q.low in
     let next : n + 1 ≡ suc n = omega arith in
-    let a : filter (lives best) (take (n + 1) kept) ≡ filter (lives best) (take n kept) ++ cond (lives best (get_or kept n r)) (get_or kept n r ∷ []) [] = filter_more (lives best) kept n r within in
-    let a' : filter (lives best) (take (n + 1) kept) ≡ filter (lives best) (take n kept) ++ cond (is_live p past n) (r ∷ []) [] =
-    a ∙ (ap (λ (q : Record). filter (lives best) (take n kept) ++ cond (lives best q) (q ∷ []) []) is
-    ∙ ap (λ (t : Bool). filter (lives best) (take n kept) ++ cond t (r ∷ []) []) (lives_same p past n r best b f)) in
-    let c : filter (is_live p past) (ids_below (suc n)) ≡ filter (is_live p past) (ids_below n) ++ cond (is_live p past n) (n ∷ []) [] = filter-append (is_live p past) (ids_below n) (n ∷ []) in
-    let d : live_lows best (take (n + 1) kept) ≡ live_lows best (take n kept) ++ map low (cond (is_live p past n) (r ∷ []) []) =
-    ap (map low) a' ∙ map-append low (filter (lives best) (take n kept)) (cond (is_live p past n) (r ∷ []) []) in
-    let e : lows_of p past (filter (is_live p past) (ids_below (suc n))) ≡ lows_of p past (filter (is_live p past) (ids_below n)) ++ lows_of p past (cond (is_live p past n) (n ∷ []) []) =
-    ap (lows_of p past) c ∙ map-append (λ (id : ℕ). (node_at p past id).low) (filter (is_live p past) (ids_below n)) (cond (is_live p past n) (n ∷ []) []) in
-    let g : map low (cond (is_live p past n) (r ∷ []) []) ≡ lows_of p past (cond (is_live p past n) (n ∷ []) []) = by_test r f.low (is_live p past n) in
-    subst (λ (m : ℕ). live_lows best (take m kept) ≡ lows_of p past (filter (is_live p past) (ids_below (suc n)))) next
-    (d ∙ (ap (λ (l : List ℤ). l ++ map low (cond (is_live p past n) (r ∷ []) [])) ih
-    ∙ (ap (λ (l : List ℤ). lows_of p past (filter (is_live p past) (ids_below n)) ++ l) g ∙ sym e)))
+    let a : filter (lives cutoff) (take (n + 1) kept) ≡ filter (lives cutoff) (take n kept) ++ cond (lives cutoff (get_or kept n r)) (get_or kept n r ∷ []) [] = filter_more (lives cutoff) kept n r within in
+    let a' : filter (lives cutoff) (take (n + 1) kept) ≡ filter (lives cutoff) (take n kept) ++ cond (is_live p s past n) (r ∷ []) [] =
+    a ∙ (ap (λ (q : Record). filter (lives cutoff) (take n kept) ++ cond (lives cutoff q) (q ∷ []) []) is
+    ∙ ap (λ (t : Bool). filter (lives cutoff) (take n kept) ++ cond t (r ∷ []) []) (lives_same p s past n r cutoff b f)) in
+    let c : filter (is_live p s past) (ids_below (suc n)) ≡ filter (is_live p s past) (ids_below n) ++ cond (is_live p s past n) (n ∷ []) [] = filter-append (is_live p s past) (ids_below n) (n ∷ []) in
+    let d : live_lows cutoff (take (n + 1) kept) ≡ live_lows cutoff (take n kept) ++ map low (cond (is_live p s past n) (r ∷ []) []) =
+    ap (map low) a' ∙ map-append low (filter (lives cutoff) (take n kept)) (cond (is_live p s past n) (r ∷ []) []) in
+    let e : lows_of p past (filter (is_live p s past) (ids_below (suc n))) ≡ lows_of p past (filter (is_live p s past) (ids_below n)) ++ lows_of p past (cond (is_live p s past n) (n ∷ []) []) =
+    ap (lows_of p past) c ∙ map-append (λ (id : ℕ). (node_at p past id).low) (filter (is_live p s past) (ids_below n)) (cond (is_live p s past n) (n ∷ []) []) in
+    let g : map low (cond (is_live p s past n) (r ∷ []) []) ≡ lows_of p past (cond (is_live p s past n) (n ∷ []) []) = by_test r f.low (is_live p s past n) in
+    subst (λ (m : ℕ). live_lows cutoff (take m kept) ≡ lows_of p past (filter (is_live p s past) (ids_below (suc n)))) next
+    (d ∙ (ap (λ (l : List ℤ). l ++ map low (cond (is_live p s past n) (r ∷ []) [])) ih
+    ∙ (ap (λ (l : List ℤ). lows_of p past (filter (is_live p s past) (ids_below n)) ++ l) g ∙ sym e)))
   where
     by_test : (r : Record) → r.low ≡ (node_at p past n).low → (t : Bool) → map (λ (q : Record). q.low) (cond t (r ∷ []) []) ≡ lows_of p past (cond t (n ∷ []) [])
     by_test r same true = ap (λ (z : ℤ). z ∷ []) same
     by_test r same false = refl
 
 -- the live nodes' low numbers are those of the records
-pub lows_same : (p : Program) (past : List Entry) (kept : List Record) (best : Option ℤ) → best ≡ value_if (best_of p past) → AreRecords p past kept → live_lows best kept ≡ lows_of p past (live_ids p past)
-lows_same p past kept best b rs =
+pub lows_same : (p : Program) (s : Settings) (past : List Entry) (kept : List Record) (cutoff : Option ℤ) → cutoff ≡ cutoff_for p s past → AreRecords p past kept → live_lows cutoff kept ≡ lows_of p past (live_ids p s past)
+lows_same p s past kept cutoff b rs =
     let whole : take (length kept) kept ≡ kept = take_all (length kept) kept (omega arith) in
-    ap (live_lows best) (sym whole) ∙ (lows_below p past kept best b rs (length kept) (omega arith) ∙ ap (λ (n : ℕ). lows_of p past (filter (is_live p past) (ids_below n))) rs.count)
+    ap (live_lows cutoff) (sym whole) ∙ (lows_below p s past kept cutoff b rs (length kept) (omega arith) ∙ ap (λ (n : ℕ). lows_of p past (filter (is_live p s past) (ids_below n))) rs.count)
 
 -- the weight of the node's piece, 0 where it is freed
 share : Program → Settings → List Entry → ℕ → ℕ
@@ -148,15 +148,14 @@ stored_same p s history kept id rs st = by_option (slice_get kept id) refl
         let t : nat_lt id (length (nodes_of p (reverse history))) ≡ true = lt-ltb id (length (nodes_of p (reverse history))) (omega (arith, h, c)) in
         (st id r e).piece ∙ sym (cond-true _ _ _ t)
 
--- the answer that the records give is that of the history
-pub answer_same : (p : Program) (past : List Entry) (kept : List Record) (value : Option ℤ) (best : Option Found) (least : Option ℤ) → value ≡ value_if (best_of p past) → AreRecords p past kept
-    → best ≡ best_of p past → least ≡ least_if (live_lows value kept) → verdict_from best least ≡ answer_of p past
+-- the answer is that of the history
+pub answer_same : (p : Program) (s : Settings) (past : List Entry) (best : Option Found) (least : Option ℤ) → best ≡ best_of p past → least ≡ least_if (lows_of p past (live_ids p s past))
+    → verdict_from s.gap best least ≡ answer_of p s past
 unfolding answer_of
-answer_same p past kept value best least v rs b l =
-    let e : least ≡ least_if (lows_of p past (live_ids p past)) = l ∙ ap least_if (lows_same p past kept value v rs) in
-    ap (λ (x : Option ℤ). verdict_from best x) e ∙ (ap (λ (f : Option Found). verdict_from f (least_if (lows_of p past (live_ids p past)))) b ∙ by_list (best_of p past) (lows_of p past (live_ids p past)))
+answer_same p s past best least b e =
+    ap (λ (x : Option ℤ). verdict_from s.gap best x) e ∙ (ap (λ (f : Option Found). verdict_from s.gap f (least_if (lows_of p past (live_ids p s past)))) b ∙ by_list (best_of p past) (lows_of p past (live_ids p s past)))
   where
-    by_list : (f : Option Found) (lows : List ℤ) → verdict_from f (least_if lows) ≡ answer_for f lows
+    by_list : (f : Option Found) (lows : List ℤ) → verdict_from s.gap f (least_if lows) ≡ answer_for s.gap f lows
     by_list f [] = refl
     by_list f (low ∷ lows) = refl
 

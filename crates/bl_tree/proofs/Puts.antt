@@ -14,6 +14,7 @@ use Rattle.bl_journal.specs.declared.entry.Entry.TheVariants.{Put}
 use Rattle.bl_journal.specs.declared.entry.Step.TheVariants.{Split}
 use Rattle.bl_tree.specs.declared.record.Record.{Record}
 use Rattle.bl_tree.specs.declared.record.Stage.TheVariants.{Parted}
+use Rattle.bl_journal.specs.declared.settings.Settings.{Settings}
 use Rattle.bl_journal.specs.Births.{nodes_of, node_at, root_node}
 use Rattle.bl_journal.specs.Descriptions.{full_of, full_along}
 use Rattle.bl_journal.specs.States.{waiting, split, state_of, has_point}
@@ -30,12 +31,12 @@ parted n r = record r { stage = Parted; children = Some n }
 abbrev pub child_record : ℕ → Record → ℤ → Bool → Piece Cut → Record
 child_record id r low open_box piece = fresh_record id (r.depth + 1) (int_max r.low low) open_box piece
 
-pub records_split : (p : Program) (past : List Entry) (kept : List Record) (seat id : ℕ) (found : Option (List ℤ)) (low : ℤ) (common : Change Cut) (column : ℕ) (at : ℤ) (r : Record) (lo ro : Bool) (left right : Piece Cut)
-    → Shape p past → MayPut p past seat id found low (Split common column at) → AreRecords p past kept → slice_get kept id ≡ Some r
+pub records_split : (p : Program) (s : Settings) (past : List Entry) (kept : List Record) (seat id : ℕ) (found : Option (List ℤ)) (low : ℤ) (common : Change Cut) (column : ℕ) (at : ℤ) (r : Record) (lo ro : Bool) (left right : Piece Cut)
+    → Shape p past → MayPut p s past seat id found low (Split common column at) → AreRecords p past kept → slice_get kept id ≡ Some r
     → lo ≡ box_has_point (full_of p (Put seat id found low (Split common column at) ∷ past) (length (nodes_of p past)))
     → ro ≡ box_has_point (full_of p (Put seat id found low (Split common column at) ∷ past) (length (nodes_of p past) + 1))
     → AreRecords p (Put seat id found low (Split common column at) ∷ past) (slice_set kept id (parted (length (nodes_of p past)) r) ++ child_record id r low lo left ∷ child_record id r low ro right ∷ [])
-records_split p past kept seat id found low common column at r lo ro left right sh may rs e el er =
+records_split p s past kept seat id found low common column at r lo ro left right sh may rs e el er =
     record {
       count =
           let a = length-append (slice_set kept id y) (r1 ∷ r2 ∷ []) in

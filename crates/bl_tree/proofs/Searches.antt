@@ -1,6 +1,7 @@
 -- Steps of the searches.
-use Rattle.std.proofs.Common.{◌≡◌, ℕ, zero, suc, ◌<◌, List, [], ◌∷◌, length, get_or, refl, ap, sym, arith, Bool, cond, Some, None, Option}
+use Rattle.std.proofs.Common.{◌≡◌, ℕ, zero, suc, ◌<◌, List, [], ◌∷◌, length, get_or, refl, ap, sym, ◌∙◌, arith, Bool, true, false, cond, Some, None, Option, inl, inr}
 use Rattle.std.specs.Prelude.{slice_get}
+use Rattle.std.proofs.lemmas.Bool.{cases_eq, cond-true, cond-false}
 use Rattle.bl_journal.specs.Replies.{first_below, preferred}
 use Rattle.bl_journal.proofs.Living.{first_below_holds}
 
@@ -9,20 +10,32 @@ slice_get-is [] i x h e = absurd (omega arith)
 slice_get-is (y ∷ xs) zero x h e = ap Some (sym e)
 slice_get-is (y ∷ xs) (suc i) x h e = slice_get-is xs i x (omega arith) e
 
-pub preferred-same : (before before' : ℕ → ℕ → Bool) (o : Option ℕ) (n : ℕ) → ((k : ℕ) → o ≡ Some k → before n k ≡ before' n k) → preferred before o n ≡ preferred before' o n
-preferred-same before before' None n e = refl
-preferred-same before before' (Some k) n e = ap (λ b. cond b (Some n) (Some k)) (e k refl)
+-- no number is fit
+pub first_below_no : (comes : ℕ → ℕ → Bool) (fit : ℕ → Bool) (n : ℕ) → ((i : ℕ) → i < n → fit i ≡ false) → first_below comes fit n ≡ None
+first_below_no comes fit zero h = refl
+first_below_no comes fit (suc n) h =
+    cond-false (fit n) (preferred comes (first_below comes fit n) n) (first_below comes fit n) (h n (omega arith)) ∙ first_below_no comes fit n (λ i b. h i (omega (arith, b)))
 
--- tests that agree below n find the same first
-pub first_below-same : (before before' : ℕ → ℕ → Bool) (fit fit' : ℕ → Bool) (n : ℕ) → ((i j : ℕ) → i < n → j < n → before i j ≡ before' i j) → ((i : ℕ) → i < n → fit i ≡ fit' i)
-    → first_below before fit n ≡ first_below before' fit' n
-first_below-same before before' fit fit' zero b f = refl
-first_below-same before before' fit fit' (suc n) b f =
-    let ih : first_below before fit n ≡ first_below before' fit' n =
-    first_below-same before before' fit fit' n (λ i j h k. b i j (omega (arith, h)) (omega (arith, k))) (λ i h. f i (omega (arith, h))) in
-    let here : fit n ≡ fit' n = f n (omega arith) in
-    let pick : preferred before (first_below before fit n) n ≡ preferred before' (first_below before fit n) n =
-    preferred-same before before' (first_below before fit n) n
-    (λ k e. let r = first_below_holds before fit n k e in let h : k < n = r.0 in b n k (omega arith) (omega arith)) in
-    let pick' : preferred before' (first_below before fit n) n ≡ preferred before' (first_below before' fit' n) n = ap (λ o. preferred before' o n) ih in
-    cc
+-- a fit number that comes before each other fit one
+pub first_below_is : (comes : ℕ → ℕ → Bool) (fit : ℕ → Bool) (n m : ℕ) → m < n → fit m ≡ true → ((i : ℕ) → i < n → fit i ≡ true → comes i m ≡ false) → ((i : ℕ) → i < n → fit i ≡ true → (i ≡ m → ⊥) → comes m i ≡ true)
+    → first_below comes fit n ≡ Some m
+first_below_is comes fit zero m b f later first = absurd (omega (arith, b))
+first_below_is comes fit (suc n) m b f later first = elim (cases_eq m n) [
+  | inl same ↦
+      let here : fit n ≡ true = ap fit (sym same) ∙ f in
+      cond-true (fit n) (preferred comes (first_below comes fit n) n) (first_below comes fit n) here ∙ (over same (first_below comes fit n) refl ∙ ap Some (sym same))
+  | inr other ↦
+      let ih : first_below comes fit n ≡ Some m = first_below_is comes fit n m (omega (arith, b, other)) f (λ i h. later i (omega (arith, h))) (λ i h. first i (omega (arith, h))) in
+      by_test ih (fit n) refl
+]
+  where
+    over : m ≡ n → (o : Option ℕ) → first_below comes fit n ≡ o → preferred comes o n ≡ Some n
+    over same None e = refl
+    over same (Some i) e =
+        let h = first_below_holds comes fit n i e in
+        let within : i < n = h.0 in
+        cond-true (comes n i) (Some n) (Some i) (ap (λ k. comes k i) (sym same) ∙ first i (omega (arith, within)) h.1 (λ q. omega (arith, q, same, within)))
+
+    by_test : first_below comes fit n ≡ Some m → (t : Bool) → fit n ≡ t → cond t (preferred comes (first_below comes fit n) n) (first_below comes fit n) ≡ Some m
+    by_test ih true e = ap (λ o. preferred comes o n) ih ∙ cond-false (comes n m) (Some n) (Some m) (later n (omega arith) e)
+    by_test ih false e = ih

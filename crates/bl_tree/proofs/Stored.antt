@@ -173,7 +173,7 @@ no_parent (Some q) i j h l = ne_eqb q j (λ e. omega (arith, e, h, l))
 
 -- a node that is split, and its two children
 pub stored_split : (p : Program) (s : Settings) (past : List Entry) (kept : List Record) (seat id : ℕ) (found : Option (List ℤ)) (low : ℤ) (common : Change Cut) (column : ℕ) (at : ℤ) (r r1 r2 : Record) (left right : Piece Cut)
-    → IsLegalPast p s past → MayPut p past seat id found low (Split common column at) → AreStored p s past kept → length kept ≡ length (nodes_of p past) → slice_get kept id ≡ Some r → was_parted r.stage ≡ false
+    → IsLegalPast p s past → MayPut p s past seat id found low (Split common column at) → AreStored p s past kept → length kept ≡ length (nodes_of p past) → slice_get kept id ≡ Some r → was_parted r.stage ≡ false
     → r1.parent ≡ Some id → r1.children ≡ None → r1.piece ≡ Some left → r2.parent ≡ Some id → r2.children ≡ None → r2.piece ≡ Some right
     → left ≡ stored_of p s (Put seat id found low (Split common column at) ∷ past) (length (nodes_of p past))
     → right ≡ stored_of p s (Put seat id found low (Split common column at) ∷ past) (length (nodes_of p past) + 1)

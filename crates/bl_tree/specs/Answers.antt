@@ -12,12 +12,12 @@ use Rattle.bl_tree.specs.declared.answer.Glance.{Glance}
 use Rattle.bl_tree.specs.declared.answer.Recoded.{Recoded}
 use Rattle.bl_tree.specs.declared.answer.Recoded.TheVariants.{Made, Same, Fixed, Gone}
 use Rattle.bl_tree.specs.declared.answer.Answer.{Answer}
-use Rattle.bl_tree.specs.declared.answer.Answer.TheVariants.{Optimal, Infeasible, Bounded}
+use Rattle.bl_tree.specs.declared.answer.Answer.TheVariants.{Optimal, Within, Infeasible, Bounded}
 use Rattle.bl_journal.specs.Births.{nodes_of, node_at}
-use Rattle.bl_journal.specs.States.{state_of, Found, best_of, value_if, used_of, form_of, is_spanned}
+use Rattle.bl_journal.specs.States.{state_of, Found, best_of, value_if, value_less, used_of, form_of, is_spanned}
 use Rattle.bl_journal.specs.Replies.{ids_of, is_out}
 use Rattle.bl_journal.specs.Pieces.{stored_of, held_of, is_freed}
-use Rattle.bl_journal.specs.Results.{Verdict, optimal, infeasible, bounded, answer_of, final, lesser_of}
+use Rattle.bl_journal.specs.Results.{Verdict, optimal, within, infeasible, bounded, answer_of, final, lesser_of}
 use Rattle.bl_tree.specs.Views.{TreeView, past_of}
 
 abbrev pub born_count : TreeView → ℕ
@@ -45,16 +45,17 @@ found_if (Some b) = Some (record { value = b.value; point = b.point.now })
 
 abbrev pub verdict_of : Answer → Verdict
 verdict_of (Optimal value point) = optimal (record { value = value; point = point.now })
+verdict_of (Within value bound point) = within (record { value = value; point = point.now }) bound
 verdict_of Infeasible = infeasible
 verdict_of (Bounded bound best) = bounded bound (found_if best)
 
--- the answer, from the best point and the least low number of the live nodes
-abbrev pub verdict_from : Option Found → Option ℤ → Verdict
-verdict_from best None = final best
-verdict_from best (Some low) = bounded (lesser_of low best) best
+-- the answer, from the gap, the best point and the least low number of the live nodes
+abbrev pub verdict_from : ℤ → Option Found → Option ℤ → Verdict
+verdict_from gap best None = final gap best
+verdict_from gap best (Some low) = bounded (lesser_of low (value_less gap best)) best
 
 abbrev pub verdict_for : TreeView → Verdict
-verdict_for t = answer_of t.problem (past_of t)
+verdict_for t = answer_of t.problem t.settings (past_of t)
 
 abbrev pub glance_for : TreeView → Glance
 glance_for t =

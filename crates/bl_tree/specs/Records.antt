@@ -1,6 +1,5 @@
 -- What the tree keeps of its nodes, and how that follows its history.
-use Rattle.std.specs.Prelude.{map, filter, fold, ◌≡◌, ℕ, suc, ◌+◌, ◌*◌, ◌≤◌, ◌<◌, ℤ, int_lt, Bool, true, false, not, ◌&&◌, ◌||◌, nat_lt, ◌==◌, List, [], ◌∷◌, length, count_by, slice_get, slice_set, IfSome, Option, Some, None, reverse, if◌then◌else◌}
-use Rattle.bl_mods.specs.Mods.{is_among}
+use Rattle.std.specs.Prelude.{map, filter, fold, ◌≡◌, ◌⊎◌, ℕ, ◌+◌, ◌*◌, ◌≤◌, ◌<◌, ℤ, pos, ◌≤ℤ◌, int_lt, Bool, true, false, not, ◌&&◌, ◌||◌, ◌==◌, List, [], ◌∷◌, length, count_by, slice_get, slice_set, IfSome, is_some, Option, Some, None, reverse, if◌then◌else◌}
 use Rattle.std.specs.Int.{int_min}
 use Rattle.bl_problem.specs.Program.{Program}
 use Rattle.bl_problem.specs.declared.cut.Cut.{Cut}
@@ -12,16 +11,19 @@ use Rattle.bl_desc.specs.Weights.{weight_of}
 use Rattle.bl_journal.specs.declared.entry.Entry.{Entry}
 use Rattle.bl_journal.specs.declared.entry.Entry.TheVariants.{Take, Put, Back, Encode, Free}
 use Rattle.bl_journal.specs.declared.settings.Settings.{Settings}
-use Rattle.bl_journal.specs.declared.settings.Order.{Order}
-use Rattle.bl_journal.specs.declared.settings.Order.TheVariants.{Best, Depth}
+use Rattle.bl_journal.specs.declared.settings.TheConstants.{LARGEST_GAP}
+use Rattle.bl_pool.specs.declared.key.Order.{Order}
+use Rattle.bl_pool.specs.declared.key.Order.TheVariants.{Best}
+use Rattle.bl_pool.specs.declared.key.Key.{Key}
+use Rattle.bl_pool.specs.Views.{PoolView, key_in}
 use Rattle.bl_tree.specs.declared.record.Record.{Record}
 use Rattle.bl_tree.specs.declared.record.Stage.{Stage}
 use Rattle.bl_tree.specs.declared.record.Stage.TheVariants.{Waiting, Out, Parted, Closed, Gone}
 use Rattle.bl_journal.specs.Births.{nodes_of, node_at}
 use Rattle.bl_journal.specs.Descriptions.{full_of}
-use Rattle.bl_journal.specs.States.{State, waiting, out, split, shut, freed, state_of, has_point, used_of, best_of, value_if, Found}
+use Rattle.bl_journal.specs.States.{State, waiting, out, split, shut, freed, state_of, has_point, is_below, used_of, best_of, cutoff_for, value_if, Found}
 use Rattle.bl_journal.specs.Legality.{IsLegalPast}
-use Rattle.bl_journal.specs.Replies.{preferred, is_waiting}
+use Rattle.bl_journal.specs.Replies.{is_waiting}
 use Rattle.bl_journal.specs.Pieces.{is_freed, stored_of}
 use Rattle.bl_journal.specs.Freeing.{is_parent, is_freeable}
 
@@ -50,25 +52,12 @@ abbrev pub is_out_if : Option Record → Bool
 is_out_if None = false
 is_out_if (Some r) = is_out_stage r.stage
 
-abbrev pub is_below_value : ℤ → Option ℤ → Bool
-is_below_value n None = true
-is_below_value n (Some b) = int_lt n b
-
 abbrev pub waits : Option ℤ → Record → Bool
-waits best r = is_waiting_stage r.stage && (r.has_point && is_below_value r.low best)
+waits cutoff r = is_waiting_stage r.stage && (r.has_point && is_below r.low cutoff)
 
 abbrev pub waits_if : Option ℤ → Option Record → Bool
-waits_if best None = false
-waits_if best (Some r) = waits best r
-
-abbrev pub precedes : Order → Record → Record → Bool
-precedes Best a b = int_lt a.low b.low
-precedes Depth a b = nat_lt b.depth a.depth || a.depth == b.depth && int_lt a.low b.low
-
-abbrev pub precedes_if : Order → Option Record → Option Record → Bool
-precedes_if order None b = false
-precedes_if order (Some a) None = false
-precedes_if order (Some a) (Some b) = precedes order a b
+waits_if cutoff None = false
+waits_if cutoff (Some r) = waits cutoff r
 
 -- the best value after a put
 abbrev pub best_value_with : Program → Option ℤ → Option (List ℤ) → Option ℤ
@@ -144,6 +133,8 @@ pub record IsKept (p : Program) (s : Settings) (past : List Entry) (room capacit
   pub outs : count_by (λ r. is_out_stage r.stage) kept ≤ taken
   pub size : length kept + 2 * count_by (λ r. is_out_stage r.stage) kept ≤ 2 * taken + 1
   pub budget : taken ≤ s.nodes
+  pub gap_some : pos 0 ≤ℤ s.gap
+  pub gap_few : s.gap ≤ℤ LARGEST_GAP
   pub few : s.nodes ≤ 100000
 
 -- the point that an entry found
@@ -177,11 +168,11 @@ place_with p best found before now = if improves p best found then now else befo
 
 -- the node is out, or it waits and may have a better point
 abbrev pub lives : Option ℤ → Record → Bool
-lives best r = is_out_stage r.stage || waits best r
+lives cutoff r = is_out_stage r.stage || waits cutoff r
 
 -- the low numbers of the live nodes
 abbrev pub live_lows : Option ℤ → List Record → List ℤ
-live_lows best records = map (λ r. r.low) (filter (lives best) records)
+live_lows cutoff records = map (λ r. r.low) (filter (lives cutoff) records)
 
 abbrev pub least_if : List ℤ → Option ℤ
 least_if [] = None
@@ -225,23 +216,15 @@ is_over_stage Gone open_node = false
 
 -- the record's node may be freed
 abbrev pub may_go : Option ℤ → List Record → Record → Bool
-may_go best records r = is_over_stage r.stage (r.has_point && is_below_value r.low best) && not (is_held records r.children)
+may_go cutoff records r = is_over_stage r.stage (r.has_point && is_below r.low cutoff) && not (is_held records r.children)
 
 abbrev pub may_go_if : Option ℤ → List Record → Option Record → Bool
-may_go_if best records None = false
-may_go_if best records (Some r) = may_go best records r
+may_go_if cutoff records None = false
+may_go_if cutoff records (Some r) = may_go cutoff records r
 
 -- the node with this number may be freed
 abbrev pub may_go_at : Option ℤ → List Record → ℕ → Bool
-may_go_at best records id = may_go_if best records (slice_get records id)
-
-abbrev pub lesser_id : Option ℕ → ℕ → ℕ
-lesser_id None i = i
-lesser_id (Some k) i = if nat_lt i k then i else k
-
--- the least of those that may be freed, and of the one that is known
-abbrev pub least_to_go : Option ℤ → List Record → Option ℕ → List ℕ → Option ℕ
-least_to_go best records first ids = fold (λ least i. if may_go_at best records i then Some (lesser_id least i) else least) first ids
+may_go_at cutoff records id = may_go_if cutoff records (slice_get records id)
 
 -- the records after a node is stored as this piece
 abbrev pub stored_if : List Record → ℕ → Piece Cut → Option Record → List Record
@@ -250,10 +233,6 @@ stored_if records id piece (Some r) = slice_set records id (record r { piece = S
 
 abbrev pub stored_at : List Record → ℕ → Piece Cut → List Record
 stored_at records id piece = stored_if records id piece (slice_get records id)
-
-abbrev pub option_to_list : Option ℕ → List ℕ
-option_to_list None = []
-option_to_list (Some id) = id ∷ []
 
 -- the record of a freed node
 abbrev pub gone_record : Record → Record
@@ -267,8 +246,8 @@ abbrev pub gone_at : List Record → ℕ → List Record
 gone_at records id = gone_if records id (slice_get records id)
 
 abbrev pub if_may_go : Option ℤ → List Record → Option ℕ → Option ℕ
-if_may_go best records None = None
-if_may_go best records (Some q) = if may_go_at best records q then Some q else None
+if_may_go cutoff records None = None
+if_may_go cutoff records (Some q) = if may_go_at cutoff records q then Some q else None
 
 abbrev pub parent_if : Option Record → Option ℕ
 parent_if None = None
@@ -276,24 +255,24 @@ parent_if (Some r) = r.parent
 
 -- the node's parent, if it may be freed
 abbrev pub next_up : Option ℤ → List Record → ℕ → Option ℕ
-next_up best records id = if_may_go best records (parent_if (slice_get records id))
+next_up cutoff records id = if_may_go cutoff records (parent_if (slice_get records id))
 
 -- the records after a node is freed and then those of the list, each the parent of the one before and free to go; the last one is known
 abbrev pub IsFreedTo : Option ℤ → List Record → ℕ → List ℕ → ℕ → List Record → Type 0
-IsFreedTo best records id [] last after = (id ≡ last) × (after ≡ gone_at records id)
-IsFreedTo best records id (q ∷ ids) last after = (next_up best (gone_at records id) id ≡ Some q) × IsFreedTo best (gone_at records id) q ids last after
+IsFreedTo cutoff records id [] last after = (id ≡ last) × (after ≡ gone_at records id)
+IsFreedTo cutoff records id (q ∷ ids) last after = (next_up cutoff (gone_at records id) id ≡ Some q) × IsFreedTo cutoff (gone_at records id) q ids last after
 
 -- the nodes of the list are freed so far: the first one, and then parents in turn up to the last one
-pub record IsFreeingUp (best : Option ℤ) (records : List Record) (id : ℕ) (ids : List ℕ) (last : ℕ) (after : List Record) : Type 0 where
+pub record IsFreeingUp (cutoff : Option ℤ) (records : List Record) (id : ℕ) (ids : List ℕ) (last : ℕ) (after : List Record) : Type 0 where
   pub others : List ℕ
   pub chain : ids ≡ id ∷ others
-  pub freed : IsFreedTo best records id others last after
+  pub freed : IsFreedTo cutoff records id others last after
 
 -- a node is freed, and then each parent in turn as long as it may be
-pub record IsFreedUp (best : Option ℤ) (records : List Record) (id : ℕ) (ids : List ℕ) (after : List Record) : Type 0 where
+pub record IsFreedUp (cutoff : Option ℤ) (records : List Record) (id : ℕ) (ids : List ℕ) (after : List Record) : Type 0 where
   pub last : ℕ
-  pub freeing : IsFreeingUp best records id ids last after
-  pub top : next_up best after last ≡ None
+  pub freeing : IsFreeingUp cutoff records id ids last after
+  pub top : next_up cutoff after last ≡ None
 
 abbrev pub depth_if : Option Record → ℕ
 depth_if None = 0
@@ -307,25 +286,60 @@ IsLinked records id (Some q) depth = (q < id) × (depth_if (slice_get records q)
 abbrev pub AreLinked : List Record → Type 0
 AreLinked records = (id : ℕ) → id < length records → IsLinked records id (parent_if (slice_get records id)) (depth_if (slice_get records id))
 
--- a node that may be freed is among the candidates; or it waits, and the best value fell since nothing could be freed
-abbrev pub IsCandidate : List ℕ → Bool → List Entry → ℕ → Type 0
-IsCandidate candidates fell past id = (is_among id candidates || (fell && is_waiting (state_of past id))) ≡ true
+-- a candidate's key: candidates come by their numbers alone
+abbrev pub candidate_key : ℕ → Key
+candidate_key id = record { id = id; low = pos 0; depth = 0 }
 
--- the numbers of the waiting nodes in rising order, where the first record is that of the node n
-abbrev pub waiting_from : ℕ → List Record → List ℕ
-waiting_from n [] = []
-waiting_from n (r ∷ rs) = if is_waiting_stage r.stage then n ∷ waiting_from (suc n) rs else waiting_from (suc n) rs
+-- the node is one of the candidates
+abbrev pub is_listed : PoolView → ℕ → Bool
+is_listed pool id = is_some (key_in pool id)
 
--- the first in the order among the fit numbers of a list; the earliest of those that come equally early
-abbrev pub first_among : (ℕ → ℕ → Bool) → (ℕ → Bool) → List ℕ → Option ℕ
-first_among before fit ids = fold (λ first id. if fit id then preferred before first id else first) None ids
+-- the candidates' pool
+pub record AreCandidates (pool : PoolView) : Type 0 where
+  pub best : pool.order ≡ Best
+  pub plain : (id : ℕ) (k : Key) → key_in pool id ≡ Some k → k ≡ candidate_key id
 
--- what the tree keeps follows its history; the lists of the waiting nodes and of the candidates have room for a put or a back of each node that is out
-pub record IsTree (p : Program) (s : Settings) (entries : List Entry) (room capacity : ℕ) (kept : List Record) (waiting : List ℕ) (waiting_capacity : ℕ) (candidates : List ℕ) (candidate_capacity : ℕ) (fell : Bool) (outs taken : ℕ) (best : Option ℤ) (place : ℕ) : Type 0 where
+-- a node that may be freed is one of the candidates; or it waits, and the best value fell since all nodes were looked at
+abbrev pub IsCandidate : (ℕ → Bool) → Bool → List Entry → ℕ → Type 0
+IsCandidate listed fell past id = (listed id || (fell && is_waiting (state_of past id))) ≡ true
+
+-- what the order sees of a record's node
+abbrev pub record_key : ℕ → Record → Key
+record_key id r = record { id = id; low = r.low; depth = r.depth }
+
+-- the key of a node's right neighbour, which differs in the number alone
+abbrev pub next_key : Key → Key
+next_key k = record k { id = k.id + 1 }
+
+-- the node waits, and its box has a point
+abbrev pub may_wait : Record → Bool
+may_wait r = is_waiting_stage r.stage && r.has_point
+
+-- a node's record, and its key among those of the waiting nodes: each live waiting node has its key, and each key is that of a waiting node whose box has a point
+abbrev pub IsQueued : Option ℤ → ℕ → Option Record → Option Key → Type 0
+IsQueued cutoff id None None = Unit {0}
+IsQueued cutoff id None (Some k) = ⊥
+IsQueued cutoff id (Some r) None = waits cutoff r ≡ false
+IsQueued cutoff id (Some r) (Some k) = (may_wait r ≡ true) × (k ≡ record_key id r)
+
+-- the pool of the waiting nodes follows the records
+pub record AreQueued (order : Order) (cutoff : Option ℤ) (kept : List Record) (pool : PoolView) : Type 0 where
+  pub same_order : pool.order ≡ order
+  pub each : (id : ℕ) → IsQueued cutoff id (slice_get kept id) (key_in pool id)
+
+-- a key stays; or it goes, and its low number is not below the cutoff
+abbrev pub IsThinned : Option ℤ → Option Key → Option Key → Type 0
+IsThinned cutoff old new = (new ≡ old) ⊎ ((new ≡ None) × IfSome old (λ k. is_below k.low cutoff ≡ false))
+
+-- what the tree keeps follows its history; the pools of the waiting nodes and of the candidates have room for a put or a back of each node that is out
+pub record IsTree (p : Program) (s : Settings) (entries : List Entry) (room capacity : ℕ) (kept : List Record) (waiting candidates : PoolView) (fell : Bool) (outs taken : ℕ) (best : Option ℤ) (place : ℕ) : Type 0 where
   pub follows : IsKept p s (reverse entries) room capacity kept taken best
   pub stands : StandsAt (best_of p (reverse entries)) entries place
-  pub waiting_is : waiting ≡ waiting_from 0 kept
-  pub waiting_room : length waiting + 2 * outs ≤ waiting_capacity
+  pub queued : AreQueued s.order (cutoff_for p s (reverse entries)) kept waiting
+  pub waiting_room : 2 * outs ≤ waiting.room
+  pub waiting_below : length kept + 2 * outs ≤ length waiting.keys
   pub outs_is : outs ≡ count_by (λ r. is_out_stage r.stage) kept
-  pub covered : (id : ℕ) → id < length (nodes_of p (reverse entries)) → is_freeable p s (reverse entries) id ≡ true → IsCandidate candidates fell (reverse entries) id
-  pub candidate_room : length candidates + 3 * outs ≤ candidate_capacity
+  pub covered : (id : ℕ) → id < length (nodes_of p (reverse entries)) → is_freeable p s (reverse entries) id ≡ true → IsCandidate (is_listed candidates) fell (reverse entries) id
+  pub listed : AreCandidates candidates
+  pub candidate_room : 3 * outs ≤ candidates.room
+  pub candidate_below : length kept + 2 * outs ≤ length candidates.keys

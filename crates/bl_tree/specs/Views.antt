@@ -50,7 +50,7 @@ pub record IsLeaseOf (t : TreeView) (seat : ℕ) (lease : LeaseView) : Type 0 wh
   pub is_out : state_of (past_of t) lease.id ≡ out seat
   pub depth : lease.depth ≡ (node_at t.problem (past_of t) lease.id).depth
   pub low : lease.low ≡ (node_at t.problem (past_of t) lease.id).low
-  pub cutoff : lease.cutoff ≡ cutoff_of t.problem (past_of t) lease.id
+  pub cutoff : lease.cutoff ≡ cutoff_of t.problem t.settings (past_of t) lease.id
   pub chain : rebuilt lease.chain ≡ Some (full_of t.problem (past_of t) lease.id)
 
 abbrev pub put_entry : ℕ → ℕ → Outcome → Entry
@@ -65,5 +65,5 @@ PiecesStored t (SplitNext common column at left right) =
 -- the outcome may be put for the lease
 pub record IsPutFor (t : TreeView) (seat : ℕ) (lease : LeaseView) (outcome : Outcome) : Type 0 where
   pub leased : IsLeaseOf t seat lease
-  pub allowed : MayPut t.problem (past_of t) seat lease.id outcome.found outcome.low (step_of outcome.next)
+  pub allowed : MayPut t.problem t.settings (past_of t) seat lease.id outcome.found outcome.low (step_of outcome.next)
   pub pieces : PiecesStored (extended t (put_entry seat lease.id outcome)) outcome.next

@@ -18,12 +18,24 @@ pub struct Best<'a> {
 /// What a search knows of the problem. Values are in units of 10^-scale.
 #[derive(Drop)]
 pub enum Answer<'a> {
-    /// No node is live, and no feasible point has a value below that of this one.
-    Optimal { value: i128, point: &'a [i64] },
+    /// No node is live, and there is no gap: no feasible point has a value below that of this one.
+    Optimal {
+        value: i128,
+        point: &'a [i64],
+    },
+    /// No node is live, and there is a gap: no feasible point has a value below `bound`, which is the value of this one less the gap.
+    Within {
+        value: i128,
+        bound: i128,
+        point: &'a [i64],
+    },
     /// No node is live, and no point is feasible.
     Infeasible,
     /// Nodes are live. No feasible point has a value below `bound`.
-    Bounded { bound: i128, best: Option<Best<'a>> },
+    Bounded {
+        bound: i128,
+        best: Option<Best<'a>>,
+    },
 }
 
 /// The numbers of a tree: the nodes born, the nodes used, the nodes that are out, and the best value.

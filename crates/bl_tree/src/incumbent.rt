@@ -1,7 +1,8 @@
 //! The best point that was found, and what is known of it.
 ghost use Rattle.std.specs.Prelude.{◌≡◌, IfSome, slice_get};
 ghost use Rattle.bl_problem.specs.Points.{InBox, own_lows, own_highs, value_of};
-ghost use Rattle.bl_journal.specs.Results.{lesser_of};
+ghost use Rattle.bl_journal.specs.Results.{lesser_of, final};
+ghost use Rattle.bl_journal.specs.States.{value_less};
 ghost use Rattle.bl_tree.specs.Records.{best_value_with, improves, place_with, found_in, found_with};
 ghost use Rattle.bl_tree.specs.Answers.{found_if, verdict_of, verdict_from};
 
@@ -87,27 +88,49 @@ pub fn found_at(entries: &[Entry], place: usize, value: i128) -> Option<Best<'_>
     }
 }
 
-// The lesser of a number and the best value.
-fn lesser_value(low: i128, best: &Option<Best<'_>>) -> i128
-    ensures { result ≡ lesser_of low (found_if best.now) }
+// The lesser of a number and the cutoff, if there is one.
+fn lesser_value(low: i128, cutoff: Option<i128>) -> i128
+    ensures { result ≡ lesser_of low cutoff }
 {
-    match best {
+    match cutoff {
         None => low,
-        Some(best) => best.value.min(low),
+        Some(cutoff) => cutoff.min(low),
     }
 }
 
-/// The answer, from the best point and the least low number of the live nodes.
-pub fn answer_from(best: Option<Best<'_>>, least: Option<i128>) -> Answer<'_>
-    ensures { verdict_of result ≡ verdict_from (found_if best.entry) least }
+// The answer where no node is live. The cutoff is the best value less the gap.
+fn final_answer(best: Option<Best<'_>>, gap: i128, cutoff: Option<i128>) -> Answer<'_>
+    requires { cutoff ≡ value_less gap (found_if best) }
+    ensures { verdict_of result ≡ final gap (found_if best.entry) }
+{
+    let Some(Best { value, point }) = best else {
+        return Answer::Infeasible;
+    };
+    if gap > 0 {
+        Answer::Within {
+            value,
+            bound: cutoff.unwrap_or(value),
+            point,
+        }
+    } else {
+        Answer::Optimal { value, point }
+    }
+}
+
+/// The answer, from the best point, the gap, the best value less the gap, and the least low number of the live nodes.
+pub fn answer_from(
+    best: Option<Best<'_>>,
+    gap: i128,
+    cutoff: Option<i128>,
+    least: Option<i128>,
+) -> Answer<'_>
+    requires { cutoff ≡ value_less gap (found_if best) }
+    ensures { verdict_of result ≡ verdict_from gap (found_if best.entry) least }
 {
     match least {
-        None => match best {
-            Some(Best { value, point }) => Answer::Optimal { value, point },
-            None => Answer::Infeasible,
-        },
+        None => final_answer(best, gap, cutoff),
         Some(low) => Answer::Bounded {
-            bound: lesser_value(low, &best),
+            bound: lesser_value(low, cutoff),
             best,
         },
     }

@@ -7,7 +7,7 @@ use bl_problem::Cut;
 use bl_rebuild::Chain;
 use std::marker::Model;
 
-/// The right and the duty to work on a node: it must be spent, by a put or a back. Contracts see the node's number, depth and low number, the best value when it was taken, and the chain of pieces that stands for its description.
+/// The right and the duty to work on a node: it must be spent, by a put or a back. Contracts see the node's number, depth and low number, the best value when it was taken less the gap, and the chain of pieces that stands for its description.
 pub struct Lease {
     pub id: u32,
     pub depth: u32,
@@ -52,7 +52,7 @@ impl Lease {
         self.low
     }
 
-    /// The best value when the node was taken, if a point had been found, in units of 10^-scale.
+    /// The best value when the node was taken less the gap, if a point had been found, in units of 10^-scale.
     pub fn cutoff(&self) -> Option<i128>
         ensures { result ≡ self.now.cutoff }
     {

@@ -3,10 +3,12 @@
 
 mod answer;
 mod children;
+mod freeable;
 mod freeing;
 mod incumbent;
 mod lease;
 mod numbers;
+mod queue;
 mod record;
 mod records;
 mod root;

@@ -1,10 +1,9 @@
 //! What the tree keeps of a node.
 ghost use Rattle.std.specs.Prelude.{◌≡◌, ◌≤◌, ◌^◌, IfSome};
 ghost use Rattle.bl_desc.specs.Weights.{HasShortLists};
-ghost use Rattle.bl_tree.specs.Records.{precedes, is_relative, weight_if, fresh_record};
+ghost use Rattle.bl_tree.specs.Records.{is_relative, weight_if, fresh_record};
 
 use bl_desc::{Piece, weight};
-use bl_journal::Order;
 use bl_problem::Cut;
 
 /// Where a node stands.
@@ -52,44 +51,45 @@ impl Record {
     }
 
     /// Whether the node waits and is live.
-    pub fn waits(&self, best: Option<i128>) -> bool
-        ensures { result ≡ waits best self.now }
+    pub fn waits(&self, cutoff: Option<i128>) -> bool
+        ensures { result ≡ waits cutoff self.now }
     {
-        self.is_waiting() && self.is_open(best)
+        self.is_waiting() && self.is_open(cutoff)
     }
 }
 
 impl Record {
-    ghost use Rattle.bl_tree.specs.Records.{lives, is_over_stage, is_below_value, stage_state};
+    ghost use Rattle.bl_tree.specs.Records.{lives, is_over_stage, stage_state};
+    ghost use Rattle.bl_journal.specs.States.{is_below};
     ghost use Rattle.bl_journal.specs.Pieces.{is_freed};
     ghost use Rattle.std.specs.Prelude.{◌&&◌};
 
     /// Whether the node is live.
-    pub fn lives(&self, best: Option<i128>) -> bool
-        ensures { result ≡ lives best self.now }
+    pub fn lives(&self, cutoff: Option<i128>) -> bool
+        ensures { result ≡ lives cutoff self.now }
     {
-        self.is_out() || self.waits(best)
+        self.is_out() || self.waits(cutoff)
     }
 
     // Whether the node may have a better point.
-    fn is_open(&self, best: Option<i128>) -> bool
-        ensures { result ≡ (self.now.has_point && is_below_value self.now.low best) }
+    fn is_open(&self, cutoff: Option<i128>) -> bool
+        ensures { result ≡ (self.now.has_point && is_below self.now.low cutoff) }
     {
         self.has_point
-            && match best {
+            && match cutoff {
                 None => true,
                 Some(value) => self.low < value,
             }
     }
 
     /// Whether the node is split, shut, or waiting and not live.
-    pub fn is_over(&self, best: Option<i128>) -> bool
-        ensures { result ≡ is_over_stage self.now.stage (self.now.has_point && is_below_value self.now.low best) }
+    pub fn is_over(&self, cutoff: Option<i128>) -> bool
+        ensures { result ≡ is_over_stage self.now.stage (self.now.has_point && is_below self.now.low cutoff) }
     {
         match self.stage {
             Stage::Parted => true,
             Stage::Closed => true,
-            Stage::Waiting => !self.is_open(best),
+            Stage::Waiting => !self.is_open(cutoff),
             Stage::Out(_) => false,
             Stage::Gone => false,
         }
@@ -125,16 +125,6 @@ impl Record {
             Some(piece) => weight(piece),
             None => 0,
         }
-    }
-}
-
-/// Whether the first goes before the second in the order.
-pub fn is_before(order: Order, a: &Record, b: &Record) -> bool
-    ensures { result ≡ precedes order a.now b.now }
-{
-    match order {
-        Order::Best => a.low < b.low,
-        Order::Depth => a.depth > b.depth || (a.depth == b.depth && a.low < b.low),
     }
 }
 

@@ -1,33 +1,42 @@
 //! Changes of plain lists of records.
-ghost use Rattle.std.specs.Prelude.{◌≡◌, ◌<◌, ◌≤◌, ◌+◌, ◌*◌, ◌^◌, length, vec_capacity, slice_get, OnOk};
+ghost use Rattle.std.specs.Prelude.{◌≡◌, ◌<◌, ◌≤◌, ◌+◌, ◌*◌, ◌^◌, ℕ, length, vec_capacity, slice_get, OnOk};
 ghost use Rattle.bl_tree.specs.Records.{stored_at, parent_if};
+ghost use Rattle.bl_pool.specs.Views.{key_in};
 
 use crate::record::Record;
 use bl_desc::Piece;
+use bl_pool::Pool;
 use bl_problem::Cut;
 use std::alloc::AllocError;
 
-/// Makes the spare room that so many leases need in the lists of a tree. What stands in them stays.
+/// Makes the spare room that so many leases need in the list and the pools of a tree. What stands in them stays.
 pub fn make_room(
     records: &mut Vec<Record>,
-    waiting: &mut Vec<u32>,
-    candidates: &mut Vec<u32>,
+    waiting: &mut Pool,
+    candidates: &mut Pool,
     leases: usize,
 ) -> Result<(), AllocError>
-    requires few { leases < 2 ^ 32 }
+    requires few { length records.old.items + 3 * leases < 2 ^ 32 }
     ensures records { records.new.items ≡ records.old.items }
-    ensures waiting { waiting.new.items ≡ waiting.old.items }
-    ensures candidates { candidates.new.items ≡ candidates.old.items }
+    ensures order { waiting.new.order ≡ waiting.old.order }
+    ensures waiting { (id : ℕ) → key_in waiting.new id ≡ key_in waiting.old id }
+    ensures candidate_order { candidates.new.order ≡ candidates.old.order }
+    ensures candidates { (id : ℕ) → key_in candidates.new id ≡ key_in candidates.old id }
     ensures record_room { vec_capacity records.old ≤ vec_capacity records.new }
-    ensures waiting_room { vec_capacity waiting.old ≤ vec_capacity waiting.new }
-    ensures candidate_room { vec_capacity candidates.old ≤ vec_capacity candidates.new }
+    ensures waiting_room { waiting.old.room ≤ waiting.new.room }
+    ensures waiting_below { length waiting.old.keys ≤ length waiting.new.keys }
+    ensures candidate_room { candidates.old.room ≤ candidates.new.room }
+    ensures candidate_below { length candidates.old.keys ≤ length candidates.new.keys }
     ensures more_records { OnOk result (length records.new.items + 2 * leases ≤ vec_capacity records.new) }
-    ensures more_waiting { OnOk result (length waiting.new.items + 2 * leases ≤ vec_capacity waiting.new) }
-    ensures more_candidates { OnOk result (length candidates.new.items + 3 * leases ≤ vec_capacity candidates.new) }
+    ensures more_waiting { OnOk result (2 * leases ≤ waiting.new.room) }
+    ensures more_below { OnOk result (length records.new.items + 2 * leases ≤ length waiting.new.keys) }
+    ensures more_candidates { OnOk result (3 * leases ≤ candidates.new.room) }
+    ensures more_candidates_below { OnOk result (length records.new.items + 2 * leases ≤ length candidates.new.keys) }
 {
     records.reserve(2 * leases)?;
-    waiting.reserve(2 * leases)?;
-    candidates.reserve(3 * leases)?;
+    let below = records.len() + 2 * leases;
+    waiting.reserve(2 * leases, below as u32)?;
+    candidates.reserve(3 * leases, below as u32)?;
     Ok(())
 }
 

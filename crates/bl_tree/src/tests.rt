@@ -1,8 +1,9 @@
 //! Trees of a problem with two columns X and Y, costs 2 and 3, and the row 2X + 3Y >= 7.
-ghost use Rattle.std.specs.Prelude.{◌≡◌, [], ◌∷◌, pos, ◌⊎◌, IfOk};
-ghost use Rattle.bl_journal.specs.Covering.{covering, row, with_span, split_root};
+ghost use Rattle.std.specs.Prelude.{◌≡◌, [], ◌∷◌, pos, ◌⊎◌, ◌≤ℤ◌, IfOk, IfSome};
+ghost use Rattle.bl_journal.specs.Covering.{covering, row, with_gap, split_root};
 ghost use Rattle.bl_journal.specs.declared.entry.Entry.TheVariants.{Take};
 ghost use Rattle.bl_tree.specs.Views.{IsLeaseOf};
+ghost use Rattle.bl_journal.specs.Covering.{IsRange};
 
 use crate::{Answer, Born, Freed, Lease, Recoded, Taken, Tree};
 use bl_desc::{Change, Form, Piece};
@@ -71,22 +72,24 @@ fn problem(alloc: Global, low: i64) -> Result<Problem, AllocError>
     Ok(Problem::new(columns, rows, objective, 0, 0, Sense::Min))
 }
 
-// The tree of the problem with this low of X; where that is 11, its box has no point.
-fn open_tree(alloc: Global, low: i64) -> Result<Tree, AllocError>
-    requires { low ≡ pos 0 ⊎ low ≡ pos 11 }
-    ensures { IfOk result (λ tree. low ≡ pos 0 → tree ≡ record { problem = covering; settings = with_span 8; history = [] }) }
+// The tree of the problem with this low of X and this gap; where the low is 11, its box has no point.
+fn open_tree(alloc: Global, low: i64, gap: i128) -> Result<Tree, AllocError>
+    requires low { low ≡ pos 0 ⊎ low ≡ pos 11 }
+    requires gap { (pos 0 ≤ℤ gap) × (gap ≤ℤ pos 3) }
+    ensures { IfOk result (λ tree. low ≡ pos 0 → tree ≡ record { problem = covering; settings = with_gap gap; history = [] }) }
 {
     let problem = problem(alloc, low)?;
     let settings = Settings {
         nodes: 100,
         span: 8,
         order: Order::Best,
+        gap,
     };
     Tree::new(alloc, Arc::new(alloc, problem)?, settings)
 }
 
-// The split of the root at X at most 4; an optimal point is found, or none.
-fn split(alloc: Global, found: bool) -> Result<Outcome, AllocError>
+// The split of the root at X at most 4; a point with X at 2 is found, whose Y is given, or none.
+fn split(alloc: Global, found: Option<i64>) -> Result<Outcome, AllocError>
     ensures { IfOk result (λ outcome. outcome ≡ split_root found) }
 {
     let mut left = Change::new(alloc);
@@ -101,19 +104,20 @@ fn split(alloc: Global, found: bool) -> Result<Outcome, AllocError>
         left: Piece::Relative(Shared::new(alloc, left)?),
         right: Piece::Relative(Shared::new(alloc, right)?),
     };
-    if found {
-        let point = Items::from_vec(vec![in alloc; 2, 1]?);
-        Ok(Outcome {
-            found: Some(point),
-            low: 7,
-            next,
-        })
-    } else {
-        Ok(Outcome {
+    match found {
+        Some(y) => {
+            let point = Items::from_vec(vec![in alloc; 2, y]?);
+            Ok(Outcome {
+                found: Some(point),
+                low: 7,
+                next,
+            })
+        }
+        None => Ok(Outcome {
             found: None,
             low: 0,
             next,
-        })
+        }),
     }
 }
 
@@ -122,11 +126,13 @@ fn put_root(
     alloc: Global,
     tree: &mut Tree,
     lease: Lease,
-    found: bool,
+    gap: i128,
+    found: Option<i64>,
 ) -> Result<Option<Born>, AllocError>
-    requires tree { tree.old ≡ record { problem = covering; settings = with_span 8; history = Take 0 0 ∷ [] } }
+    requires tree { tree.old ≡ record { problem = covering; settings = with_gap gap; history = Take 0 0 ∷ [] } }
     requires leased { IsLeaseOf tree.old 0 lease }
     requires root { lease.id ≡ 0 }
+    requires found { IfSome found IsRange }
 {
     match split(alloc, found) {
         Ok(outcome) => Ok(tree.put(0, lease, outcome)),
@@ -138,11 +144,14 @@ fn put_root(
 }
 
 // The tree after the root was taken and split, and what was born.
-fn split_tree(alloc: Global, found: bool) -> Result<(Tree, Option<Born>), Fail> {
-    let mut tree = open_tree(alloc, 0)?;
+fn split_tree(alloc: Global, gap: i128, found: Option<i64>) -> Result<(Tree, Option<Born>), Fail>
+    requires gap { (pos 0 ≤ℤ gap) × (gap ≤ℤ pos 3) }
+    requires found { IfSome found IsRange }
+{
+    let mut tree = open_tree(alloc, 0, gap)?;
     match tree.take(0)? {
         Taken::Node(lease) => {
-            let born = put_root(alloc, &mut tree, lease, found)?;
+            let born = put_root(alloc, &mut tree, lease, gap, found)?;
             Ok((tree, born))
         }
         Taken::Idle | Taken::Done | Taken::Spent => Err(Fail::new("the root was wanted")),
@@ -195,7 +204,7 @@ fn is_done(tree: &mut Tree) -> Result<bool, AllocError> {
 
 #[test]
 fn a_live_root_stays(rt: HostRuntime) -> Result<(), Fail> {
-    let mut tree = open_tree(rt.alloc(), 0)?;
+    let mut tree = open_tree(rt.alloc(), 0, 0)?;
     assert!(rt; frees(&mut tree, &[])?);
     assert_eq!(rt; recode(&mut tree, 0, Form::Relative)?, Recoded::Fixed);
     assert_eq!(rt; recode(&mut tree, 0, Form::Explicit)?, Recoded::Same);
@@ -208,7 +217,7 @@ fn a_live_root_stays(rt: HostRuntime) -> Result<(), Fail> {
 
 #[test]
 fn a_root_without_a_point_is_freed(rt: HostRuntime) -> Result<(), Fail> {
-    let mut tree = open_tree(rt.alloc(), 11)?;
+    let mut tree = open_tree(rt.alloc(), 11, 0)?;
     assert!(rt; is_done(&mut tree)?);
     assert!(rt; frees(&mut tree, &[0])?);
     assert!(rt; frees(&mut tree, &[])?);
@@ -221,7 +230,7 @@ fn a_root_without_a_point_is_freed(rt: HostRuntime) -> Result<(), Fail> {
 
 #[test]
 fn children_are_encoded_and_their_parent_is_freed(rt: HostRuntime) -> Result<(), Fail> {
-    let (mut tree, born) = split_tree(rt.alloc(), false)?;
+    let (mut tree, born) = split_tree(rt.alloc(), 0, None)?;
     assert_eq!(rt; born, Some(Born { left: 1, right: 2 }));
     let high_four = [Mod { place: 0, entry: 4 }];
     match tree.stored(1) {
@@ -253,7 +262,7 @@ fn children_are_encoded_and_their_parent_is_freed(rt: HostRuntime) -> Result<(),
 
 #[test]
 fn nodes_without_hope_are_freed(rt: HostRuntime) -> Result<(), Fail> {
-    let (mut tree, _) = split_tree(rt.alloc(), true)?;
+    let (mut tree, _) = split_tree(rt.alloc(), 0, Some(1))?;
     assert!(rt; is_done(&mut tree)?);
     assert!(rt; frees(&mut tree, &[1])?);
     assert!(rt; frees(&mut tree, &[2, 0])?);
@@ -266,5 +275,31 @@ fn nodes_without_hope_are_freed(rt: HostRuntime) -> Result<(), Fail> {
         }
         _ => panic!(rt; "an optimal point was wanted"),
     }
+    Ok(())
+}
+
+#[test]
+fn a_point_within_the_gap_ends_the_search(rt: HostRuntime) -> Result<(), Fail> {
+    let (mut tree, _) = split_tree(rt.alloc(), 3, Some(2))?;
+    assert!(rt; is_done(&mut tree)?);
+    match tree.answer() {
+        Answer::Within {
+            value,
+            bound,
+            point,
+        } => {
+            assert_eq!(rt; value, 10);
+            assert_eq!(rt; bound, 7);
+            assert!(rt; point == [2, 2].as_slice());
+        }
+        _ => panic!(rt; "a point within the gap was wanted"),
+    }
+    Ok(())
+}
+
+#[test]
+fn a_point_beyond_the_gap_does_not(rt: HostRuntime) -> Result<(), Fail> {
+    let (mut tree, _) = split_tree(rt.alloc(), 2, Some(2))?;
+    assert!(rt; takes(&mut tree, 1, &[0, 0], &[4, 10])?);
     Ok(())
 }

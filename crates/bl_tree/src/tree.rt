@@ -4,18 +4,21 @@ ghost use Rattle.bl_journal.specs.declared.entry.Entry.TheVariants.{Put};
 
 use crate::answer::{Answer, Best, Born, Freed, Glance, Recoded};
 use crate::children::have_points;
-use crate::freeing::{free_up, least_to_go};
+use crate::freeable::{add, add_if, add_two, first_to_go, refresh};
+use crate::freeing::free_up;
 use crate::incumbent::{answer_from, best_after, found_at, is_better, place_after};
 use crate::lease::{Lease, Taken, number_of, parts_of};
-use crate::numbers::{append_if, append_two, copy_into, join, leave};
+use crate::numbers::copy_into;
+use crate::queue::{first_if_open, first_open, join_children, join_if, key_of, leave};
 use crate::record::{Record, Stage, new_record};
 use crate::records::{make_room, store};
 use crate::root::{describe_root, root_low, root_record};
-use crate::search::{first_waiting, least_live, piece_of, weight_of_all};
+use crate::search::{least_live, piece_of, weight_of_all};
 use bl_desc::{Desc, Form, Piece, between};
 use bl_journal::laws::descriptions_are_whole;
-use bl_journal::{Entry, Journal, Next, Outcome, Settings, Step};
+use bl_journal::{Entry, Journal, Next, Order, Outcome, Settings, Step};
 use bl_mods::{Items, Shared};
+use bl_pool::{Key, Pool};
 use bl_problem::{Cut, Problem};
 use bl_rebuild::{Chain, rebuild};
 use std::alloc::{AllocError, Global};
@@ -42,11 +45,11 @@ pub struct Tree {
     settings: Settings,
     journal: Journal,
     records: Vec<Record>,
-    // The numbers of the waiting nodes, in rising order.
-    waiting: Vec<u32>,
+    // The keys of the waiting nodes, but for some that aren't live any more.
+    waiting: Pool,
     // Each node that may be freed is one of these; or it waits, and `fell` is set.
-    candidates: Vec<u32>,
-    // The best value fell since nothing could be freed.
+    candidates: Pool,
+    // The best value fell since all nodes were looked at.
     fell: bool,
     // How many nodes are out.
     outs: u32,
@@ -65,20 +68,25 @@ impl Model for Tree {
 
     ghost view = { λ t. record { problem = t.problem; settings = t.settings; history = t.journal.entries } };
 
-    ghost invariant = { λ t. IsTree t.problem t.settings t.journal.entries t.journal.room (vec_capacity t.records) t.records.items t.waiting.items (vec_capacity t.waiting) t.candidates.items (vec_capacity t.candidates) t.fell t.outs t.used t.best t.best_place };
+    ghost invariant = { λ t. IsTree t.problem t.settings t.journal.entries t.journal.room (vec_capacity t.records) t.records.items t.waiting t.candidates t.fell t.outs t.used t.best t.best_place };
 }
 
 impl Tree {
     ghost use Rattle.bl_tree.specs.Views.{IsLegalTree, IsLeaseOf, IsPutFor, extended, put_entry};
     ghost use Rattle.bl_tree.specs.Answers.{IsBorn, born_for, glance_for, stored_for, held_for, found_if, verdict_of, verdict_for, recoded_for, related_for, is_freed_if};
     ghost use Rattle.bl_tree.specs.Views.{past_of};
-    ghost use Rattle.bl_journal.specs.States.{best_of};
+    ghost use Rattle.bl_journal.specs.States.{best_of, cutoff_for};
+    ghost use Rattle.bl_journal.specs.Results.{IsTrueFor, live_ids, lows_of};
+    ghost use Rattle.bl_tree.specs.Records.{least_if};
+    ghost use Rattle.bl_journal.specs.declared.settings.TheConstants.{LARGEST_GAP};
+    ghost use Rattle.std.specs.Prelude.{pos, ◌≤ℤ◌};
     ghost use Rattle.bl_tree.specs.Calls.{Takes, Frees, Recodes};
     ghost use Rattle.bl_tree.specs.declared.answer.Recoded.TheVariants.{Made};
     ghost use Rattle.bl_tree.specs.Chains.{StandsFor};
     ghost use Rattle.bl_tree.specs.Views.{pieces_of};
     ghost use Rattle.bl_journal.specs.Pieces.{chain_of, piece_in};
     ghost use Rattle.bl_journal.specs.Freeing.{first_freeable};
+    ghost use Rattle.bl_journal.specs.Replies.{next_of};
     ghost use Rattle.bl_journal.specs.Descriptions.{full_of};
     ghost use Rattle.bl_journal.specs.States.{state_of, freed};
     ghost use Rattle.std.specs.Prelude.{◌≢◌};
@@ -97,6 +105,8 @@ impl Tree {
         requires span { 0 < settings.span }
         requires short { settings.span ≤ 64 }
         requires few { settings.nodes ≤ 100000 }
+        requires gap_some { pos 0 ≤ℤ settings.gap }
+        requires gap_few { settings.gap ≤ℤ LARGEST_GAP }
         ensures { IfOk result (λ tree. tree ≡ record { problem = problem.value; settings = settings; history = [] }) }
     {
         let problem = Shared::from_arc(problem);
@@ -104,11 +114,13 @@ impl Tree {
         let low = root_low(problem.get(), &desc);
         let mut records = Vec::new(alloc);
         let record = root_record(low, Shared::new(alloc, desc)?);
+        let mut waiting = Pool::new(alloc, settings.order);
+        waiting.reserve(1, 1)?;
+        join_if(&mut waiting, key_of(0, &record), record.has_point);
         records.push(record)?;
-        let mut waiting = Vec::new(alloc);
-        waiting.push(0)?;
-        let mut candidates = Vec::new(alloc);
-        candidates.push(0)?;
+        let mut candidates = Pool::new(alloc, Order::Best);
+        candidates.reserve(1, 1)?;
+        add(&mut candidates, 0);
         Ok(Tree {
             problem,
             settings,
@@ -155,12 +167,37 @@ impl Tree {
         found_at(self.journal.entries(), self.best_place, value)
     }
 
-    /// What the search knows: the best point and whether it is optimal, or that no point is feasible, or a bound.
+    // The best value less the gap, if a point was found.
+    fn cutoff(&self) -> Option<i128>
+        ensures { result ≡ cutoff_for self.now.problem self.now.settings (past_of self.now) }
+    {
+        let _columns = self.problem.get().columns();
+        let value = self.best?;
+        Some(value - self.settings.gap)
+    }
+
+    // The least low number of the live nodes. Where no node is out and the order is best first, the
+    // pool's first key has it.
+    fn least_low(&self) -> Option<i128>
+        ensures { result ≡ least_if (lows_of self.now.problem (past_of self.now) (live_ids self.now.problem self.now.settings (past_of self.now))) }
+    {
+        let cutoff = self.cutoff();
+        if self.outs == 0 && self.settings.order == Order::Best {
+            let key = first_if_open(&self.waiting, cutoff)?;
+            return Some(key.low);
+        }
+        least_live(&self.records, cutoff)
+    }
+
+    /// What the search knows: the best point and whether it is optimal or within the gap, or that no point is feasible, or a bound.
     pub fn answer(&self) -> Answer<'_>
         ensures answer { verdict_of result ≡ verdict_for self.now }
+        ensures means { IsTrueFor self.now.problem (verdict_of result) }
         ensures legal { IsLegalTree self.now }
     {
-        answer_from(self.incumbent(), least_live(&self.records, self.best))
+        let cutoff = self.cutoff();
+        let least = self.least_low();
+        answer_from(self.incumbent(), self.settings.gap, cutoff, least)
     }
 
     /// The numbers of the tree.
@@ -175,13 +212,22 @@ impl Tree {
         }
     }
 
+    // The first live waiting node in the order. The keys that come before its own go.
+    fn next_live(&mut self) -> Option<u32>
+        ensures next { result ≡ next_of self.old.problem self.old.settings (past_of self.old) }
+        ensures same { self.new ≡ self.old }
+    {
+        let cutoff = self.cutoff();
+        let key = first_open(&mut self.waiting, cutoff)?;
+        Some(key.id)
+    }
+
     /// Hands out the first live waiting node in the order.
     pub fn take(&mut self, seat: u32) -> Result<Taken, AllocError>
         ensures taken { IfOk result (λ t. Takes self.old seat t self.new) }
         ensures err { OnErr result (self.new ≡ self.old) }
     {
-        let first = first_waiting(&self.records, &self.waiting, self.best, self.settings.order);
-        let Some(place) = first else {
+        let Some(id) = self.next_live() else {
             if self.outs > 0 {
                 return Ok(Taken::Idle);
             }
@@ -190,7 +236,7 @@ impl Tree {
         if self.used >= self.settings.nodes {
             return Ok(Taken::Spent);
         }
-        let id = place as u32;
+        let cutoff = self.cutoff();
         let chain = self.chain_to(id)?;
         let desc = rebuild(&chain)?;
         // Room for this take, and for the put or the back of each lease.
@@ -202,7 +248,7 @@ impl Tree {
             &mut self.candidates,
             leases,
         )?;
-        let record = &mut self.records[place];
+        let record = &mut self.records[id as usize];
         let depth = record.depth;
         let low = record.low;
         record.stage = Stage::Out(seat);
@@ -214,7 +260,7 @@ impl Tree {
             id,
             depth,
             low,
-            cutoff: self.best,
+            cutoff,
             chain,
             desc,
         }))
@@ -232,7 +278,7 @@ impl Tree {
             unreachable!()
         };
         match piece {
-            Piece::Explicit(desc) => Ok(Chain::begin(*self.waiting.allocator(), desc.share()?)),
+            Piece::Explicit(desc) => Ok(Chain::begin(*self.records.allocator(), desc.share()?)),
             Piece::Relative(change) => {
                 let Some(parent) = record.parent else {
                     unreachable!()
@@ -258,7 +304,7 @@ impl Tree {
         self.fell |= is_better(problem, self.best, &found);
         self.best = best_after(problem, self.best, &found);
         self.outs -= 1;
-        self.candidates.push_reserved(id);
+        add(&mut self.candidates, id);
         match next {
             Next::Shut => {
                 self.records[id as usize].stage = Stage::Closed;
@@ -284,8 +330,13 @@ impl Tree {
                     .push_reserved(new_record(id, depth, child_low, left_open, left));
                 self.records
                     .push_reserved(new_record(id, depth, child_low, right_open, right));
-                append_two(&mut self.waiting, count);
-                append_two(&mut self.candidates, count);
+                let key = Key {
+                    id: count,
+                    low: child_low,
+                    depth,
+                };
+                join_children(&mut self.waiting, key, left_open, right_open);
+                add_two(&mut self.candidates, count);
                 let step = Step::Split { common, column, at };
                 self.journal
                     .push_reserved(put_of(seat, id, found, low, step));
@@ -303,9 +354,10 @@ impl Tree {
         ensures { self.new ≡ extended self.old (Back seat lease.id) }
     {
         let id = number_of(lease);
-        self.records[id as usize].stage = Stage::Waiting;
-        join(&mut self.waiting, id);
-        self.candidates.push_reserved(id);
+        let record = &mut self.records[id as usize];
+        record.stage = Stage::Waiting;
+        join_if(&mut self.waiting, key_of(id, record), record.has_point);
+        add(&mut self.candidates, id);
         self.outs -= 1;
         self.used -= 1;
         self.journal.push_reserved(Entry::Back { seat, id });
@@ -375,7 +427,7 @@ impl Tree {
     {
         descriptions_are_whole();
         let _columns = self.problem.get().columns();
-        let alloc = *self.waiting.allocator();
+        let alloc = *self.records.allocator();
         let desc = self.description_of(id)?;
         match form {
             Form::Explicit => Ok(Piece::Explicit(Shared::new(alloc, desc)?)),
@@ -403,23 +455,23 @@ impl Tree {
         let piece = self.encoded(id, form)?;
         let outs = self.outs as usize;
         self.journal.reserve(outs + 1)?;
-        self.candidates.reserve(3 * outs + 1)?;
+        self.candidates.reserve(3 * outs + 1, 0)?;
         let parent = store(&mut self.records, id as usize, piece);
-        append_if(&mut self.candidates, parent);
+        add_if(&mut self.candidates, parent);
         self.journal.push_reserved(Entry::Encode { seat, id, form });
         Ok(answer)
     }
 
-    // The least node that may be freed.
-    fn first_to_go(&self) -> Option<u32>
-        ensures { result ≡ first_freeable self.now.problem self.now.settings (past_of self.now) }
+    // The least node that may be freed. The candidates before it go.
+    fn next_to_go(&mut self) -> Result<Option<u32>, AllocError>
+        ensures next { IfOk result (λ first. first ≡ first_freeable self.old.problem self.old.settings (past_of self.old)) }
+        ensures same { self.new ≡ self.old }
     {
-        let first = least_to_go(&self.records, self.best, None, &self.candidates);
-        if self.fell {
-            least_to_go(&self.records, self.best, first, &self.waiting)
-        } else {
-            first
-        }
+        let cutoff = self.cutoff();
+        let room = 3 * self.outs as usize;
+        refresh(&mut self.candidates, self.fell, &self.records, cutoff, room)?;
+        self.fell = false;
+        Ok(first_to_go(&mut self.candidates, &self.records, cutoff))
     }
 
     /// Frees the least node that may be freed, and then each parent in turn as long as it may be. `Nothing` exactly where no node may be freed. `AllocError` where there is no memory; the tree is then as it was.
@@ -427,17 +479,17 @@ impl Tree {
         ensures freed { IfOk result (λ answer. Frees self.old seat answer self.new) }
         ensures err { OnErr result (self.new ≡ self.old) }
     {
-        let Some(first) = self.first_to_go() else {
-            self.candidates.clear();
-            self.fell = false;
+        let least = self.next_to_go()?;
+        let Some(first) = least else {
             return Ok(Freed::Nothing);
         };
-        let alloc = *self.waiting.allocator();
+        let cutoff = self.cutoff();
+        let alloc = *self.records.allocator();
         self.journal.reserve(self.outs as usize + 1)?;
         let most = self.records[first as usize].depth as usize + 1;
         let mut ids = Vec::with_capacity(alloc, most)?;
         let mut chain = Vec::with_capacity(alloc, most)?;
-        free_up(&mut self.records, self.best, first, &mut ids);
+        free_up(&mut self.records, cutoff, first, &mut ids);
         ids.shrink_to_fit();
         copy_into(&ids, &mut chain);
         leave(&mut self.waiting, first);

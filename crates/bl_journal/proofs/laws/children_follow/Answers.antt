@@ -4,6 +4,6 @@ use Rattle.bl_journal.proofs.laws.children_follow.Goals as goal
 
 pub returns : goal.returns
 returns c = record {
-  left = λ p s history seat id found low common column at l may. left_follows p (reverse history) seat id found low common column at may;
-  right = λ p s history seat id found low common column at l may. right_follows p (reverse history) seat id found low common column at may;
+  left = λ p s history seat id found low common column at l may. left_follows p s (reverse history) seat id found low common column at may;
+  right = λ p s history seat id found low common column at l may. right_follows p s (reverse history) seat id found low common column at may;
 }

@@ -4,6 +4,6 @@ use Rattle.bl_journal.proofs.laws.live_nodes_cover.Goals as goal
 
 pub returns : goal.returns
 returns c = record {
-  lies_somewhere = λ p s history x l b. lies_somewhere p s (reverse history) l.steps x b.feasible b.below;
+  lies_somewhere = λ p s history x g l b. lies_somewhere p s (reverse history) g l.steps x b.feasible b.below;
   lies_once = λ p s history x i j l a b. lies_once p s (reverse history) l.steps x i j a b;
 }

@@ -7,10 +7,10 @@ use Rattle.bl_tree.proofs.freeing.free_up.Goals as goal
 pub loop-parent-preserved : goal.loop-parent-preserved
 loop-parent-preserved c =
     let inv = c.loop-parent.invariant in
-    let up : next_up c.args.best c.loop-parent.records.items c.loop-parent.last ≡ Some c.in-Some.parent =
-    ap (λ (l : List Record). next_up c.args.best l c.loop-parent.last) (sym c.as_slice.ensures.value) ∙ (sym c.next_up.ensures ∙ c.in-Some.is) in
-    let is = up_is c.args.best c.loop-parent.records.items c.loop-parent.last c.in-Some.parent up in
-    let step = step_up c.args.best c.loop-parent.records.items c.loop-parent.last c.in-Some.parent inv.linked inv.there up in
+    let up : next_up c.args.cutoff c.loop-parent.records.items c.loop-parent.last ≡ Some c.in-Some.parent =
+    ap (λ (l : List Record). next_up c.args.cutoff l c.loop-parent.last) (sym c.as_slice.ensures.value) ∙ (sym c.next_up.ensures ∙ c.in-Some.is) in
+    let is = up_is c.args.cutoff c.loop-parent.records.items c.loop-parent.last c.in-Some.parent up in
+    let step = step_up c.args.cutoff c.loop-parent.records.items c.loop-parent.last c.in-Some.parent inv.linked inv.there up in
     let gone = c.go-in-Some.ensures.items in
     let ids = c.push_reserved-in-Some.ensures.items in
     let len = length-gone c.loop-parent.records.items c.in-Some.parent in
@@ -20,7 +20,7 @@ loop-parent-preserved c =
     let less = step.less_deep in
     let room = inv.room in
     record {
-      freeing = rw (gone, ids) (freeing_more c.args.best c.args.records.now.items c.args.first c.loop-parent.last c.in-Some.parent c.loop-parent.ids.items c.loop-parent.records.items inv.freeing up);
+      freeing = rw (gone, ids) (freeing_more c.args.cutoff c.args.records.now.items c.args.first c.loop-parent.last c.in-Some.parent c.loop-parent.ids.items c.loop-parent.records.items inv.freeing up);
       linked = rw gone (linked_gone c.loop-parent.records.items c.in-Some.parent inv.linked);
       there = rw gone (omega (arith, len, there));
       room = rw gone (omega (arith, more, deep, less, room));

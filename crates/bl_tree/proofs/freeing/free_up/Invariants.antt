@@ -4,7 +4,7 @@ use Rattle.bl_tree.proofs.freeing.free_up.Given as goal
 
 abbrev pub invariant-loop-parent : goal.invariant-loop-parent
 invariant-loop-parent l = record {
-  freeing : IsFreeingUp l.best l.fn.records.items l.first l.ids.items l.last l.records.items;
+  freeing : IsFreeingUp l.cutoff l.fn.records.items l.first l.ids.items l.last l.records.items;
   linked : AreLinked l.records.items;
   there : l.last < length l.records.items;
   room : length l.ids.items + depth_if (slice_get l.records.items l.last) ≤ depth_if (slice_get l.fn.records.items l.first) + 1;

@@ -8,7 +8,7 @@ taken : (c : goal.After-tree-in-Node-1) → IsTaken c.in_ok-tree.tree 0 c.in-Nod
 taken c = subst (λ (t : Taken). Takes c.in_ok-tree.tree 0 t c.take.new.self) c.in-Node.is c.in_ok-lease.ensures.taken
 
 pub put_root-requires-clause-tree : goal.put_root-requires-clause-tree
-put_root-requires-clause-tree c = taken_is c.in_ok-tree.tree c.take.new.self c.in-Node.lease (c.in_ok-tree.ensures refl) (taken c)
+put_root-requires-clause-tree c = taken_is _ c.in_ok-tree.tree c.take.new.self c.in-Node.lease (c.in_ok-tree.ensures refl) (taken c)
 
 pub put_root-requires-clause-root : goal.put_root-requires-clause-root
-put_root-requires-clause-root c = root_given c.in_ok-tree.tree c.take.new.self c.in-Node.lease (c.in_ok-tree.ensures refl) (taken c)
+put_root-requires-clause-root c = root_given _ c.in_ok-tree.tree c.take.new.self c.in-Node.lease (c.in_ok-tree.ensures refl) (taken c)

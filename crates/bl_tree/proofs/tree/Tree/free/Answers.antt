@@ -3,40 +3,32 @@ use Rattle.std.specs.Prelude.{reverse, vec_capacity}
 use Rattle.bl_journal.specs.declared.entry.Entry.{Entry}
 use Rattle.bl_journal.specs.declared.entry.Entry.TheVariants.{Free}
 use Rattle.bl_journal.specs.Births.{nodes_of}
-use Rattle.bl_journal.specs.Freeing.{first_freeable, HasNothingToFree, IsFreeChain, standing_of}
+use Rattle.bl_journal.specs.States.{cutoff_for}
+use Rattle.bl_journal.specs.Freeing.{first_freeable, IsFreeChain, standing_of}
 use Rattle.bl_tree.specs.Views.{TreeView, past_of, extended}
-use Rattle.bl_tree.specs.Records.{depth_if}
+use Rattle.bl_tree.specs.Records.{depth_if, is_listed}
 use Rattle.bl_tree.proofs.Searches.{slice_get-is}
 use Rattle.bl_journal.proofs.Growth.{reverse-push}
 use Rattle.bl_tree.proofs.Candidates.{linked}
-use Rattle.bl_tree.proofs.Trees.{tree_room, tree_idle, tree_freed, freed_tree, first_holds, nothing_to_free}
+use Rattle.bl_tree.proofs.Trees.{tree_room, tree_freed, freed_tree, first_holds, nothing_to_free}
 use Rattle.bl_tree.proofs.tree.Tree.free.Goals as goal
-
-pub invariant_of-self : goal.invariant_of-self
-invariant_of-self c =
-    let u : TreeView = record { problem = c.self.inside.problem; settings = c.self.inside.settings; history = c.self.inside.journal.entries } in
-    let none : first_freeable u.problem u.settings (past_of u) ≡ None =
-    ap (λ (t : TreeView). first_freeable t.problem t.settings (past_of t)) c.self.view_is ∙ (sym c.first_to_go.ensures ∙ c.in_default.is) in
-    let nothing = nothing_to_free u.problem u.settings (past_of u) none in
-    tree_idle _ _ _ _ _ _ _ _ _ _ _ _ _ _ _ _ _ c.self.invariant nothing c.clear.ensures.items c.clear.ensures.capacity
 
 pub returns-in_default-clause-freed : goal.returns-in_default-clause-freed
 returns-in_default-clause-freed c =
-    let u : TreeView = record { problem = c.self.inside.problem; settings = c.self.inside.settings; history = c.self.inside.journal.entries } in
-    let none : first_freeable u.problem u.settings (past_of u) ≡ None =
-    ap (λ (t : TreeView). first_freeable t.problem t.settings (past_of t)) c.self.view_is ∙ (sym c.first_to_go.ensures ∙ c.in_default.is) in
-    let nothing = nothing_to_free u.problem u.settings (past_of u) none in
-    (subst (λ (t : TreeView). HasNothingToFree t.problem t.settings (past_of t)) c.self.view_is nothing, c.self.view_is)
+    let t : TreeView = c.args.self.now in
+    let none : first_freeable t.problem t.settings (past_of t) ≡ None = sym c.in_ok-least.ensures.next ∙ c.in_default.is in
+    (nothing_to_free t.problem t.settings (past_of t) none, c.next_to_go.ensures.same)
 
-pub invariant_of-self-in_err-reserve : goal.invariant_of-self-in_err-reserve
-invariant_of-self-in_err-reserve c =
-    tree_room _ _ _ _ _ _ _ _ _ _ _ _ _ _ _ _ _ _ _ _ _ _ _ c.self.invariant c.reserve.ensures.entries refl refl refl c.reserve.ensures.kept (omega arith) (omega arith) (omega arith)
+pub invariant_of-self : goal.invariant_of-self
+invariant_of-self c =
+    tree_room _ _ _ _ _ _ _ _ _ _ _ _ _ _ _ _ _ _ _ c.self.invariant c.reserve.ensures.entries refl refl (λ id. refl) c.self.invariant.listed (λ q h. h) c.reserve.ensures.kept (omega arith) (omega arith) (omega arith) (omega arith) (omega arith)
 
 pub index-requires : goal.index-requires
 index-requires c =
     let u : TreeView = record { problem = c.self.inside.problem; settings = c.self.inside.settings; history = c.self.inside.journal.entries } in
+    let v = c.self.view_is ∙ c.next_to_go.ensures.same in
     let first : first_freeable u.problem u.settings (past_of u) ≡ Some c.in-Some.first =
-    ap (λ (t : TreeView). first_freeable t.problem t.settings (past_of t)) c.self.view_is ∙ (sym c.first_to_go.ensures ∙ c.in-Some.is) in
+    ap (λ (t : TreeView). first_freeable t.problem t.settings (past_of t)) v ∙ (sym c.in_ok-least.ensures.next ∙ c.in-Some.is) in
     let k = c.self.invariant.follows in
     let holds = first_holds u.problem u.settings (past_of u) c.in-Some.first first in
     let born : c.in-Some.first < length (nodes_of u.problem (past_of u)) = holds.0 in
@@ -46,17 +38,18 @@ index-requires c =
 
 pub invariant_of-self-in_err-ids : goal.invariant_of-self-in_err-ids
 invariant_of-self-in_err-ids c =
-    tree_room _ _ _ _ _ _ _ _ _ _ _ _ _ _ _ _ _ _ _ _ _ _ _ c.self.invariant c.reserve.ensures.entries refl refl refl c.reserve.ensures.kept (omega arith) (omega arith) (omega arith)
+    tree_room _ _ _ _ _ _ _ _ _ _ _ _ _ _ _ _ _ _ _ c.self.invariant c.reserve.ensures.entries refl refl (λ id. refl) c.self.invariant.listed (λ q h. h) c.reserve.ensures.kept (omega arith) (omega arith) (omega arith) (omega arith) (omega arith)
 
 pub invariant_of-self-in_err-chain : goal.invariant_of-self-in_err-chain
 invariant_of-self-in_err-chain c =
-    tree_room _ _ _ _ _ _ _ _ _ _ _ _ _ _ _ _ _ _ _ _ _ _ _ c.self.invariant c.reserve.ensures.entries refl refl refl c.reserve.ensures.kept (omega arith) (omega arith) (omega arith)
+    tree_room _ _ _ _ _ _ _ _ _ _ _ _ _ _ _ _ _ _ _ c.self.invariant c.reserve.ensures.entries refl refl (λ id. refl) c.self.invariant.listed (λ q h. h) c.reserve.ensures.kept (omega arith) (omega arith) (omega arith) (omega arith) (omega arith)
 
 pub free_up-requires-clause-there : goal.free_up-requires-clause-there
 free_up-requires-clause-there c =
     let u : TreeView = record { problem = c.self.inside.problem; settings = c.self.inside.settings; history = c.self.inside.journal.entries } in
+    let v = c.self.view_is ∙ c.next_to_go.ensures.same in
     let first : first_freeable u.problem u.settings (past_of u) ≡ Some c.in-Some.first =
-    ap (λ (t : TreeView). first_freeable t.problem t.settings (past_of t)) c.self.view_is ∙ (sym c.first_to_go.ensures ∙ c.in-Some.is) in
+    ap (λ (t : TreeView). first_freeable t.problem t.settings (past_of t)) v ∙ (sym c.in_ok-least.ensures.next ∙ c.in-Some.is) in
     let k = c.self.invariant.follows in
     let holds = first_holds u.problem u.settings (past_of u) c.in-Some.first first in
     let born : c.in-Some.first < length (nodes_of u.problem (past_of u)) = holds.0 in
@@ -71,8 +64,9 @@ free_up-requires-clause-linked c =
 pub free_up-requires-clause-room : goal.free_up-requires-clause-room
 free_up-requires-clause-room c =
     let u : TreeView = record { problem = c.self.inside.problem; settings = c.self.inside.settings; history = c.self.inside.journal.entries } in
+    let v = c.self.view_is ∙ c.next_to_go.ensures.same in
     let first : first_freeable u.problem u.settings (past_of u) ≡ Some c.in-Some.first =
-    ap (λ (t : TreeView). first_freeable t.problem t.settings (past_of t)) c.self.view_is ∙ (sym c.first_to_go.ensures ∙ c.in-Some.is) in
+    ap (λ (t : TreeView). first_freeable t.problem t.settings (past_of t)) v ∙ (sym c.in_ok-least.ensures.next ∙ c.in-Some.is) in
     let k = c.self.invariant.follows in
     let holds = first_holds u.problem u.settings (past_of u) c.in-Some.first first in
     let born : c.in-Some.first < length (nodes_of u.problem (past_of u)) = holds.0 in
@@ -85,8 +79,9 @@ free_up-requires-clause-room c =
 pub copy_into-requires-clause-room : goal.copy_into-requires-clause-room
 copy_into-requires-clause-room c =
     let u : TreeView = record { problem = c.self.inside.problem; settings = c.self.inside.settings; history = c.self.inside.journal.entries } in
+    let v = c.self.view_is ∙ c.next_to_go.ensures.same in
     let first : first_freeable u.problem u.settings (past_of u) ≡ Some c.in-Some.first =
-    ap (λ (t : TreeView). first_freeable t.problem t.settings (past_of t)) c.self.view_is ∙ (sym c.first_to_go.ensures ∙ c.in-Some.is) in
+    ap (λ (t : TreeView). first_freeable t.problem t.settings (past_of t)) v ∙ (sym c.in_ok-least.ensures.next ∙ c.in-Some.is) in
     let k = c.self.invariant.follows in
     let holds = first_holds u.problem u.settings (past_of u) c.in-Some.first first in
     let born : c.in-Some.first < length (nodes_of u.problem (past_of u)) = holds.0 in
@@ -102,8 +97,9 @@ copy_into-requires-clause-room c =
 pub invariant_of-self-2 : goal.invariant_of-self-2
 invariant_of-self-2 c =
     let u : TreeView = record { problem = c.self.inside.problem; settings = c.self.inside.settings; history = c.self.inside.journal.entries } in
+    let v = c.self.view_is ∙ c.next_to_go.ensures.same in
     let first : first_freeable u.problem u.settings (past_of u) ≡ Some c.in-Some.first =
-    ap (λ (t : TreeView). first_freeable t.problem t.settings (past_of t)) c.self.view_is ∙ (sym c.first_to_go.ensures ∙ c.in-Some.is) in
+    ap (λ (t : TreeView). first_freeable t.problem t.settings (past_of t)) v ∙ (sym c.in_ok-least.ensures.next ∙ c.in-Some.is) in
     let k = c.self.invariant.follows in
     let holds = first_holds u.problem u.settings (past_of u) c.in-Some.first first in
     let born : c.in-Some.first < length (nodes_of u.problem (past_of u)) = holds.0 in
@@ -113,14 +109,16 @@ invariant_of-self-2 c =
     ∙ ap (λ (es : List Entry). es ++ Free c.args.seat c.free_up.new.ids.items ∷ []) c.reserve.ensures.entries) in
     let asked = c.in_ok-reserve.ensures.room in
     let room = c.push_reserved.ensures.room in
-    tree_freed _ _ _ _ _ _ _ _ _ _ _ _ _ _ _ _ _ _ _ _ _ c.args.seat c.in-Some.first c.free_up.new.ids.items c.self.invariant first c.free_up.ensures.freed h (omega (arith, asked, room)) c.free_up.ensures.capacity
-    c.leave.ensures.items c.leave.ensures.shorter c.leave.ensures.capacity
+    let cut = c.cutoff-cutoff.ensures ∙ ap (λ (t : TreeView). cutoff_for t.problem t.settings (past_of t)) (sym c.self.view_is) in
+    tree_freed _ _ _ _ _ _ _ _ _ _ _ _ _ _ _ _ _ _ _ c.args.seat c.in-Some.first c.free_up.new.ids.items c.self.invariant cut first c.free_up.ensures.freed h (omega (arith, asked, room)) c.free_up.ensures.capacity
+    c.leave.ensures.order c.leave.ensures.keys c.leave.ensures.room c.leave.ensures.below
 
 pub returns-clause-freed : goal.returns-clause-freed
 returns-clause-freed c =
     let u : TreeView = record { problem = c.self.inside.problem; settings = c.self.inside.settings; history = c.self.inside.journal.entries } in
+    let v = c.self.view_is ∙ c.next_to_go.ensures.same in
     let first : first_freeable u.problem u.settings (past_of u) ≡ Some c.in-Some.first =
-    ap (λ (t : TreeView). first_freeable t.problem t.settings (past_of t)) c.self.view_is ∙ (sym c.first_to_go.ensures ∙ c.in-Some.is) in
+    ap (λ (t : TreeView). first_freeable t.problem t.settings (past_of t)) v ∙ (sym c.in_ok-least.ensures.next ∙ c.in-Some.is) in
     let k = c.self.invariant.follows in
     let holds = first_holds u.problem u.settings (past_of u) c.in-Some.first first in
     let born : c.in-Some.first < length (nodes_of u.problem (past_of u)) = holds.0 in
@@ -131,13 +129,14 @@ returns-clause-freed c =
     let asked = c.in_ok-reserve.ensures.room in
     let room = c.push_reserved.ensures.room in
     let outs = c.self.invariant.outs_is in
-    let g = freed_tree u.problem u.settings (past_of u) c.self.inside.journal.room c.push_reserved.new.self.room (vec_capacity c.self.inside.records) c.self.inside.records.items c.self.inside.used c.self.inside.best
-    c.self.inside.candidates.items c.self.inside.fell c.args.seat c.in-Some.first c.free_up.new.ids.items c.free_up.new.records.items k c.self.invariant.covered first c.free_up.ensures.freed (omega (arith, asked, room, outs)) in
+    let cut = c.cutoff-cutoff.ensures ∙ ap (λ (t : TreeView). cutoff_for t.problem t.settings (past_of t)) (sym c.self.view_is) in
+    let g = freed_tree u.problem u.settings (past_of u) c.self.inside.journal.room c.push_reserved.new.self.room (vec_capacity c.self.inside.records) c.self.inside.records.items c.self.inside.used c.self.inside.best c.cutoff-cutoff.result
+    (is_listed c.self.inside.candidates) c.self.inside.fell c.args.seat c.in-Some.first c.free_up.new.ids.items c.free_up.new.records.items k cut c.self.invariant.covered first c.free_up.ensures.freed (omega (arith, asked, room, outs)) in
     let answer : c.from_vec.result ≡ c.free_up.new.ids.items = c.from_vec.ensures ∙ (c.copy_into.ensures ∙ (c.deref.ensures.value ∙ c.shrink_to_fit.ensures.items)) in
     let turned : reverse c.push_reserved.new.self.entries ≡ Free c.args.seat c.free_up.new.ids.items ∷ past_of u = ap reverse h ∙ reverse-push c.self.inside.journal.entries (Free c.args.seat c.free_up.new.ids.items) in (
-      subst (λ (t : TreeView). IsFreeChain t.problem t.settings (past_of t) c.from_vec.result) c.self.view_is (subst (λ (l : List ℕ). IsFreeChain u.problem u.settings (past_of u) l) (sym answer) g.chain),
+      subst (λ (t : TreeView). IsFreeChain t.problem t.settings (past_of t) c.from_vec.result) v (subst (λ (l : List ℕ). IsFreeChain u.problem u.settings (past_of u) l) (sym answer) g.chain),
       ap (λ (es : List Entry). record { problem = u.problem; settings = u.settings; history = es }) h
-          ∙ (ap (λ (l : List ℕ). extended u (Free c.args.seat l)) (sym answer) ∙ ap (λ (t : TreeView). extended t (Free c.args.seat c.from_vec.result)) c.self.view_is),
-      subst (λ (t : TreeView). standing_of u.problem (reverse c.push_reserved.new.self.entries) < standing_of t.problem (past_of t)) c.self.view_is
+          ∙ (ap (λ (l : List ℕ). extended u (Free c.args.seat l)) (sym answer) ∙ ap (λ (t : TreeView). extended t (Free c.args.seat c.from_vec.result)) v),
+      subst (λ (t : TreeView). standing_of u.problem (reverse c.push_reserved.new.self.entries) < standing_of t.problem (past_of t)) v
           (subst (λ (past : List Entry). standing_of u.problem past < standing_of u.problem (past_of u)) (sym turned) g.fewer),
     )

@@ -1,5 +1,5 @@
-use Rattle.std.proofs.Common.{rules, arith, ◌≡◌, ◌<◌, ◌+◌, ◌||◌, ℕ, Bool, List, [], ◌∷◌, ◌++◌, length, refl, length-append, append_assoc, ap, sym, ◌∙◌, subst}
-use Rattle.std.specs.Prelude.{FitsSigned, ℤ, reverse}
+use Rattle.std.proofs.Common.{rules, arith, ◌≡◌, ◌<◌, ◌+◌, ◌||◌, ℕ, Bool, Option, List, [], ◌∷◌, ◌++◌, length, refl, length-append, length-set, ap, sym, ◌∙◌, subst}
+use Rattle.std.specs.Prelude.{FitsSigned, ℤ, reverse, slice_set}
 use Rattle.std.specs.Int.{int_max, w64, w128}
 use Rattle.std.proofs.lemmas.Int.{to_z-of_z}
 use mir.Val.{to_z, of_z}
@@ -12,14 +12,19 @@ use Rattle.bl_journal.specs.Births.{nodes_of}
 use Rattle.bl_journal.specs.Descriptions.{left_child, right_child}
 use Rattle.bl_journal.proofs.Lines.{full_whole}
 use Rattle.bl_journal.proofs.Growth.{reverse-push}
-use Rattle.bl_tree.proofs.Covers.{IsCovered, covered_put, two_among}
-use Rattle.bl_tree.specs.Records.{best_value_with, place_with, improves, box_has_point}
+use Rattle.bl_tree.proofs.Covers.{IsCovered, covered_put, two_listed}
+use Rattle.bl_tree.specs.Records.{best_value_with, place_with, improves, box_has_point, is_listed}
 use Rattle.bl_journal.specs.declared.entry.Entry.{Entry}
 use Rattle.bl_journal.specs.declared.entry.Entry.TheVariants.{Put}
 use Rattle.bl_journal.specs.declared.entry.Step.TheVariants.{Shut, Split}
 use Rattle.bl_tree.proofs.Handed.{put_facts, desc_is, shut_done, split_done, put_room}
-use Rattle.bl_tree.proofs.Kept.{kept_born}
-use Rattle.bl_tree.proofs.Waits.{out_counted, waits_shut, waits_split}
+use Rattle.bl_tree.proofs.Kept.{kept_born, kept_out}
+use Rattle.bl_journal.specs.States.{cutoff_for}
+use Rattle.bl_tree.specs.declared.record.Record.{Record}
+use Rattle.bl_tree.specs.declared.record.Stage.TheVariants.{Closed}
+use Rattle.bl_tree.proofs.Puts.{parted}
+use Rattle.bl_tree.proofs.Outs.{out_counted, out_waits_not, outs_ended, split_list, outs_split}
+use Rattle.bl_tree.proofs.Queues.{all_passed, all_split, all_unborn, put_moved}
 use Rattle.bl_tree.proofs.Searches.{slice_get-is}
 use Rattle.bl_tree.proofs.Standing.{stands_put}
 use Rattle.bl_tree.proofs.tree.Tree.put.Goals as goal
@@ -32,15 +37,24 @@ overflow_sub-self c =
     let o = out_counted _ _ _ _ _ _ _ _ c.parts_of-id.result.0 c.args.seat c.self.inside.outs c.self.invariant.follows f.may.is_out c.self.invariant.outs_is in
     omega (arith, o)
 
-pub push_reserved-requires : goal.push_reserved-requires
-push_reserved-requires c =
+pub add-requires-clause-room : goal.add-requires-clause-room
+add-requires-clause-room c =
     let lid : c.parts_of-id.result.0 ≡ c.args.lease.id = c.parts_of-id.ensures.id in
     let f = put_facts c.self.inside.problem c.self.inside.settings c.self.inside.journal.entries c.args.self.now c.args.seat c.args.lease c.args.outcome c.parts_of-id.result.0 _
     c.self.view_is lid refl c.requires in
     let o = out_counted _ _ _ _ _ _ _ _ c.parts_of-id.result.0 c.args.seat c.self.inside.outs c.self.invariant.follows f.may.is_out c.self.invariant.outs_is in
     let room = c.self.invariant.candidate_room in
-    let k : length c.self.inside.candidates.items ≡ c.self.inside.candidates.len = search rules in
-    omega (arith, o, room, k)
+    omega (arith, o, room)
+
+pub add-requires-clause-below : goal.add-requires-clause-below
+add-requires-clause-below c =
+    let lid : c.parts_of-id.result.0 ≡ c.args.lease.id = c.parts_of-id.ensures.id in
+    let f = put_facts c.self.inside.problem c.self.inside.settings c.self.inside.journal.entries c.args.self.now c.args.seat c.args.lease c.args.outcome c.parts_of-id.result.0 _
+    c.self.view_is lid refl c.requires in
+    let o = out_counted _ _ _ _ _ _ _ _ c.parts_of-id.result.0 c.args.seat c.self.inside.outs c.self.invariant.follows f.may.is_out c.self.invariant.outs_is in
+    let b : c.parts_of-id.result.0 < length c.self.inside.records.items = kept_born _ _ _ _ _ _ _ _ c.parts_of-id.result.0 c.args.seat c.self.invariant.follows f.may.is_out in
+    let below = c.self.invariant.candidate_below in
+    omega (arith, b, below)
 
 pub index_mut-requires : goal.index_mut-requires
 index_mut-requires c =
@@ -51,8 +65,8 @@ index_mut-requires c =
     let k : length c.self.inside.records.items ≡ c.self.inside.records.len = search rules in
     omega (arith, b, k)
 
-pub push_reserved-requires-in-Shut : goal.push_reserved-requires-in-Shut
-push_reserved-requires-in-Shut c =
+pub push_reserved-requires : goal.push_reserved-requires
+push_reserved-requires c =
     let lid : c.parts_of-id.result.0 ≡ c.args.lease.id = c.parts_of-id.ensures.id in
     let f = put_facts c.self.inside.problem c.self.inside.settings c.self.inside.journal.entries c.args.self.now c.args.seat c.args.lease c.args.outcome c.parts_of-id.result.0 _
     c.self.view_is lid c.in-Shut.is c.requires in
@@ -73,33 +87,43 @@ invariant_of-self c =
     c.best_after-self-inside.ensures ∙ ap (λ (p : Program). best_value_with p c.self.inside.best c.args.outcome.found) c.get-problem.ensures in
     let fit : FitsSigned w128 c.args.outcome.low = search rules in
     let low : to_z w128 (of_z w128 c.args.outcome.low) ≡ c.args.outcome.low = to_z-of_z w128 _ fit in
-    let pushed : c.push_reserved-in-Shut.new.self.entries ≡ c.self.inside.journal.entries ++ c.put_of.result ∷ [] = c.push_reserved-in-Shut.ensures.entries in
-    let made : c.push_reserved-in-Shut.new.self.entries ≡ c.self.inside.journal.entries ++ Put c.args.seat c.parts_of-id.result.0 c.args.outcome.found c.args.outcome.low Shut ∷ [] =
+    let pushed : c.push_reserved.new.self.entries ≡ c.self.inside.journal.entries ++ c.put_of.result ∷ [] = c.push_reserved.ensures.entries in
+    let made : c.push_reserved.new.self.entries ≡ c.self.inside.journal.entries ++ Put c.args.seat c.parts_of-id.result.0 c.args.outcome.found c.args.outcome.low Shut ∷ [] =
     pushed ∙ ap (λ (e : Entry). c.self.inside.journal.entries ++ e ∷ []) (c.put_of.ensures ∙ ap (λ z. Put c.args.seat c.parts_of-id.result.0 c.args.outcome.found z Shut) low) in
     let place = c.place_after-self-inside.ensures ∙ (ap (λ (p : Program). place_with p c.self.inside.best c.args.outcome.found c.self.inside.best_place c.len-now.result) c.get-problem.ensures
     ∙ ap (place_with c.self.inside.problem c.self.inside.best c.args.outcome.found c.self.inside.best_place) c.len-now.ensures) in
-    let waits = waits_shut _ _ _ _ _ _ _ _ c.parts_of-id.result.0 c.args.seat c.index_mut.result.now c.self.inside.waiting.items c.self.inside.outs c.self.invariant.follows f.may.is_out e
-    (record { numbers = c.self.invariant.waiting_is; count = c.self.invariant.outs_is }) in
+    let y : Record = record c.index_mut.result.now { stage = Closed } in
+    let now = outs_ended _ _ _ _ _ _ _ _ c.parts_of-id.result.0 c.args.seat c.index_mut.result.now y c.self.inside.outs c.self.invariant.follows f.may.is_out e c.self.invariant.outs_is refl in
+    let was = (kept_out _ _ _ _ _ _ _ _ c.parts_of-id.result.0 c.args.seat c.index_mut.result.now c.self.invariant.follows f.may.is_out e).1 in
+    let e0 : Entry = Put c.args.seat c.parts_of-id.result.0 c.args.outcome.found c.args.outcome.low Shut in
+    let queued = all_passed (cutoff_for c.self.inside.problem c.self.inside.settings (e0 ∷ reverse c.self.inside.journal.entries)) c.self.inside.records.items c.self.inside.waiting c.parts_of-id.result.0 c.index_mut.result.now y e
+    (out_waits_not c.index_mut.result.now.stage was) refl
+    (put_moved c.self.inside.problem c.self.inside.settings (reverse c.self.inside.journal.entries) c.self.inside.records.items c.self.inside.waiting c.args.seat c.parts_of-id.result.0 c.args.outcome.found c.args.outcome.low Shut c.self.invariant.queued.each) in
+    let long = length-set c.self.inside.records.items c.parts_of-id.result.0 y in
     let old = c.self.invariant.waiting_room in
+    let below = c.self.invariant.waiting_below in
     let better : c.is_better.result ≡ improves c.self.inside.problem c.self.inside.best c.args.outcome.found =
     c.is_better.ensures ∙ ap (λ (p : Program). improves p c.self.inside.best c.args.outcome.found) c.get-problem.ensures in
     let some = out_counted _ _ _ _ _ _ _ _ c.parts_of-id.result.0 c.args.seat c.self.inside.outs c.self.invariant.follows f.may.is_out c.self.invariant.outs_is in
     let cands = c.self.invariant.candidate_room in
-    let longer_cands = ap length c.push_reserved.ensures.items ∙ length-append c.self.inside.candidates.items (c.parts_of-id.result.0 ∷ []) in
-    let broad = c.push_reserved.ensures.capacity in
+    let added = c.add.ensures.room in
+    let listed_below = c.self.invariant.candidate_below in
+    let kept_listed = c.add.ensures.below in
     record {
-      waiting_is = waits.numbers;
+      queued = rw (made, reverse-push c.self.inside.journal.entries e0) (record { same_order = c.self.invariant.queued.same_order; each = queued });
       waiting_room = omega (arith, old);
-      outs_is = waits.count;
-      follows = shut_done _ _ _ _ _ _ _ _ _ _ _ c.parts_of-id.result.0 c.args.seat c.args.lease c.args.outcome c.index_mut.result.now c.self.invariant.follows f e c.push_reserved-in-Shut.ensures.room made is_best;
+      waiting_below = omega (arith, below, long);
+      outs_is = now;
+      follows = shut_done _ _ _ _ _ _ _ _ _ _ _ c.parts_of-id.result.0 c.args.seat c.args.lease c.args.outcome c.index_mut.result.now c.self.invariant.follows f e c.push_reserved.ensures.room made is_best;
       stands = stands_put c.self.inside.problem c.self.inside.journal.entries _ c.args.seat c.parts_of-id.result.0 c.args.outcome.found c.args.outcome.low Shut c.self.inside.best c.self.inside.best_place _ made
           c.self.invariant.follows.best_is place c.self.invariant.stands;
-      covered = rw (made, reverse-push c.self.inside.journal.entries (Put c.args.seat c.parts_of-id.result.0 c.args.outcome.found c.args.outcome.low Shut), c.push_reserved.ensures.items)
-          (subst (λ (b : Bool). IsCovered c.self.inside.problem c.self.inside.settings (Put c.args.seat c.parts_of-id.result.0 c.args.outcome.found c.args.outcome.low Shut ∷ reverse c.self.inside.journal.entries)
-          (c.self.inside.candidates.items ++ c.parts_of-id.result.0 ∷ []) (c.self.inside.fell || b)) (sym better)
-          (covered_put c.self.inside.problem c.self.inside.settings (reverse c.self.inside.journal.entries) c.self.inside.candidates.items [] c.self.inside.fell c.self.inside.best c.args.seat c.parts_of-id.result.0 c.args.outcome.found
-          c.args.outcome.low Shut f.may.is_out c.self.invariant.follows.best_is (λ q lo hi. absurd (omega (arith, lo, hi))) c.self.invariant.covered));
-      candidate_room = omega (arith, some, cands, longer_cands, broad);
+      listed = c.add.ensures.plain;
+      covered = rw (made, reverse-push c.self.inside.journal.entries e0)
+          (subst (λ (b : Bool). IsCovered c.self.inside.problem c.self.inside.settings (e0 ∷ reverse c.self.inside.journal.entries) (is_listed c.add.new.pool) (c.self.inside.fell || b)) (sym better)
+          (covered_put c.self.inside.problem c.self.inside.settings (reverse c.self.inside.journal.entries) (is_listed c.self.inside.candidates) (is_listed c.add.new.pool) c.self.inside.fell c.self.inside.best c.args.seat c.parts_of-id.result.0
+          c.args.outcome.found c.args.outcome.low Shut f.may.is_out c.self.invariant.follows.best_is c.add.ensures.others c.add.ensures.here (λ q lo hi. absurd (omega (arith, lo, hi))) c.self.invariant.covered));
+      candidate_room = omega (arith, some, cands, added);
+      candidate_below = omega (arith, listed_below, kept_listed, long);
     }
 
 pub index_mut-parent-requires : goal.index_mut-parent-requires
@@ -146,14 +170,34 @@ push_reserved-requires-in-Split-2 c =
     let cap = c.push_reserved-in-Split.ensures.capacity in
     omega (arith, two, k, len, cap)
 
-pub append_two-requires-clause-room : goal.append_two-requires-clause-room
-append_two-requires-clause-room c =
+pub join_children-requires-clause-room : goal.join_children-requires-clause-room
+join_children-requires-clause-room c =
     let lid : c.parts_of-id.result.0 ≡ c.args.lease.id = c.parts_of-id.ensures.id in
     let f = put_facts c.self.inside.problem c.self.inside.settings c.self.inside.journal.entries c.args.self.now c.args.seat c.args.lease c.args.outcome c.parts_of-id.result.0 _
     c.self.view_is lid c.in-Split.is c.requires in
     let o = out_counted _ _ _ _ _ _ _ _ c.parts_of-id.result.0 c.args.seat c.self.inside.outs c.self.invariant.follows f.may.is_out c.self.invariant.outs_is in
     let old = c.self.invariant.waiting_room in
     omega (arith, o, old)
+
+pub join_children-requires-clause-below : goal.join_children-requires-clause-below
+join_children-requires-clause-below c =
+    let lid : c.parts_of-id.result.0 ≡ c.args.lease.id = c.parts_of-id.ensures.id in
+    let f = put_facts c.self.inside.problem c.self.inside.settings c.self.inside.journal.entries c.args.self.now c.args.seat c.args.lease c.args.outcome c.parts_of-id.result.0 _
+    c.self.view_is lid c.in-Split.is c.requires in
+    let o = out_counted _ _ _ _ _ _ _ _ c.parts_of-id.result.0 c.args.seat c.self.inside.outs c.self.invariant.follows f.may.is_out c.self.invariant.outs_is in
+    let below = c.self.invariant.waiting_below in
+    let len : c.len-count.result ≡ length c.self.inside.records.items = search rules in
+    omega (arith, o, below, len)
+
+pub join_children-requires-clause-new : goal.join_children-requires-clause-new
+join_children-requires-clause-new c =
+    let len : c.len-count.result ≡ length c.self.inside.records.items = search rules in
+    all_unborn (cutoff_for c.self.inside.problem c.self.inside.settings (reverse c.self.inside.journal.entries)) c.self.inside.records.items c.self.inside.waiting c.len-count.result (omega (arith, len)) c.self.invariant.queued.each
+
+pub join_children-requires-clause-next : goal.join_children-requires-clause-next
+join_children-requires-clause-next c =
+    let len : c.len-count.result ≡ length c.self.inside.records.items = search rules in
+    all_unborn (cutoff_for c.self.inside.problem c.self.inside.settings (reverse c.self.inside.journal.entries)) c.self.inside.records.items c.self.inside.waiting (c.len-count.result + 1) (omega (arith, len)) c.self.invariant.queued.each
 
 pub push_reserved-requires-in-Split-3 : goal.push_reserved-requires-in-Split-3
 push_reserved-requires-in-Split-3 c =
@@ -191,13 +235,15 @@ invariant_of-self-in-Split c =
     let place = c.place_after-self-inside.ensures ∙ (ap (λ (p : Program). place_with p c.self.inside.best c.args.outcome.found c.self.inside.best_place c.len-now.result) c.get-problem.ensures
     ∙ ap (place_with c.self.inside.problem c.self.inside.best c.args.outcome.found c.self.inside.best_place) c.len-now.ensures) in
     let len : c.len-count.result ≡ length c.self.inside.records.items = search rules in
-    let waits = waits_split _ _ _ _ _ _ _ _ _ _ c.parts_of-id.result.0 c.args.seat c.len-count.result _ _ _ _ _ _ c.index_mut-parent.result.now _ _ c.self.inside.waiting.items _ c.self.inside.outs
-    c.self.invariant.follows f.may.is_out e (record { numbers = c.self.invariant.waiting_is; count = c.self.invariant.outs_is })
-    c.new_record.ensures c.new_record-in-Split.ensures c.push_reserved-in-Split.ensures.items c.push_reserved-in-Split-2.ensures.items len c.append_two.ensures.items in
+    let all = split_list c.self.inside.records.items _ _ c.parts_of-id.result.0 c.len-count.result _ _ _ _ _ _ c.index_mut-parent.result.now _ _
+    c.new_record.ensures c.new_record-in-Split.ensures c.push_reserved-in-Split.ensures.items c.push_reserved-in-Split-2.ensures.items in
+    let now = outs_split _ _ _ _ _ _ _ _ _ c.parts_of-id.result.0 c.args.seat c.len-count.result _ _ _ _ _ _ c.index_mut-parent.result.now c.self.inside.outs c.self.invariant.follows f.may.is_out e c.self.invariant.outs_is all in
+    let was = (kept_out _ _ _ _ _ _ _ _ c.parts_of-id.result.0 c.args.seat c.index_mut-parent.result.now c.self.invariant.follows f.may.is_out e).1 in
     let o = out_counted _ _ _ _ _ _ _ _ c.parts_of-id.result.0 c.args.seat c.self.inside.outs c.self.invariant.follows f.may.is_out c.self.invariant.outs_is in
     let old = c.self.invariant.waiting_room in
-    let longer : length c.append_two.new.numbers.items ≡ length c.self.inside.waiting.items + 2 = ap length c.append_two.ensures.items ∙ length-append c.self.inside.waiting.items _ in
-    let wide = c.append_two.ensures.capacity in
+    let below = c.self.invariant.waiting_below in
+    let wide = c.join_children.ensures.room in
+    let kept_below = c.join_children.ensures.below in
     let full = desc_is c.self.inside.problem c.self.inside.settings c.self.inside.journal.entries c.args.seat c.parts_of-id.result.0 c.args.lease c.args.outcome _ c.parts_of-id.result.1 f c.parts_of-id.ensures.desc in
     let better : c.is_better.result ≡ improves c.self.inside.problem c.self.inside.best c.args.outcome.found =
     c.is_better.ensures ∙ ap (λ (p : Program). improves p c.self.inside.best c.args.outcome.found) c.get-problem.ensures in
@@ -208,23 +254,36 @@ invariant_of-self-in-Split c =
     let e0 : Entry = Put c.args.seat c.parts_of-id.result.0 c.args.outcome.found c.args.outcome.low (Split c.in-Split.common c.in-Split.column c.in-Split.at) in
     let grown : length (nodes_of c.self.inside.problem (e0 ∷ reverse c.self.inside.journal.entries)) ≡ length (nodes_of c.self.inside.problem (reverse c.self.inside.journal.entries)) + 2 =
     length-append (nodes_of c.self.inside.problem (reverse c.self.inside.journal.entries)) _ in
-    let new : List ℕ = c.len-count.result ∷ (c.len-count.result + 1) ∷ [] in
-    let listed : c.append_two-in-Split.new.numbers.items ≡ c.self.inside.candidates.items ++ c.parts_of-id.result.0 ∷ new =
-    c.append_two-in-Split.ensures.items ∙ (ap (λ (l : List ℕ). l ++ new) c.push_reserved.ensures.items ∙ append_assoc c.self.inside.candidates.items (c.parts_of-id.result.0 ∷ []) new) in
+    let y : Record = parted c.len-count.result c.index_mut-parent.result.now in
+    let set : List Record = slice_set c.self.inside.records.items c.parts_of-id.result.0 y in
+    let long : length set ≡ length c.self.inside.records.items = length-set c.self.inside.records.items c.parts_of-id.result.0 y in
+    let cut : Option ℤ = cutoff_for c.self.inside.problem c.self.inside.settings (e0 ∷ reverse c.self.inside.journal.entries) in
+    let passed = all_passed cut c.self.inside.records.items c.self.inside.waiting c.parts_of-id.result.0 c.index_mut-parent.result.now y e (out_waits_not c.index_mut-parent.result.now.stage was) refl
+    (put_moved c.self.inside.problem c.self.inside.settings (reverse c.self.inside.journal.entries) c.self.inside.records.items c.self.inside.waiting c.args.seat c.parts_of-id.result.0 c.args.outcome.found c.args.outcome.low
+    (Split c.in-Split.common c.in-Split.column c.in-Split.at) c.self.invariant.queued.each) in
+    let queued = all_split cut set c.self.inside.waiting c.join_children.new.pool c.parts_of-id.result.0 c.len-count.result _ _ _ _ c.in-Split.left c.in-Split.right (omega (arith, len, long))
+    c.join_children.ensures.left c.join_children.ensures.right c.join_children.ensures.others passed in
+    let more_records = ap length all ∙ length-append set _ in
     let cands = c.self.invariant.candidate_room in
-    let longer_cands = ap length listed ∙ length-append c.self.inside.candidates.items (c.parts_of-id.result.0 ∷ new) in
-    let broad = c.append_two-in-Split.ensures.capacity in
-    let broad' = c.push_reserved.ensures.capacity in
+    let added = c.add.ensures.room in
+    let added_two = c.add_two.ensures.room in
+    let listed_below = c.self.invariant.candidate_below in
+    let kept_listed = c.add.ensures.below in
+    let kept_listed_two = c.add_two.ensures.below in
     record {
-      covered = rw (made, reverse-push c.self.inside.journal.entries e0, listed)
-          (subst (λ (b : Bool). IsCovered c.self.inside.problem c.self.inside.settings (e0 ∷ reverse c.self.inside.journal.entries) (c.self.inside.candidates.items ++ c.parts_of-id.result.0 ∷ new) (c.self.inside.fell || b)) (sym better)
-          (covered_put c.self.inside.problem c.self.inside.settings (reverse c.self.inside.journal.entries) c.self.inside.candidates.items new c.self.inside.fell c.self.inside.best c.args.seat c.parts_of-id.result.0 c.args.outcome.found
-          c.args.outcome.low (Split c.in-Split.common c.in-Split.column c.in-Split.at) f.may.is_out c.self.invariant.follows.best_is
-          (λ q lo hi. two_among q c.len-count.result (omega (arith, lo, n)) (omega (arith, hi, grown, n))) c.self.invariant.covered));
-      candidate_room = omega (arith, o, cands, longer_cands, broad, broad');
-      waiting_is = waits.numbers;
-      waiting_room = omega (arith, o, old, longer, wide);
-      outs_is = waits.count;
+      listed = c.add_two.ensures.plain;
+      covered = rw (made, reverse-push c.self.inside.journal.entries e0)
+          (subst (λ (b : Bool). IsCovered c.self.inside.problem c.self.inside.settings (e0 ∷ reverse c.self.inside.journal.entries) (is_listed c.add_two.new.pool) (c.self.inside.fell || b)) (sym better)
+          (covered_put c.self.inside.problem c.self.inside.settings (reverse c.self.inside.journal.entries) (is_listed c.self.inside.candidates) (is_listed c.add_two.new.pool) c.self.inside.fell c.self.inside.best c.args.seat c.parts_of-id.result.0
+          c.args.outcome.found c.args.outcome.low (Split c.in-Split.common c.in-Split.column c.in-Split.at) f.may.is_out c.self.invariant.follows.best_is
+          (λ q h. c.add_two.ensures.others q (c.add.ensures.others q h)) (c.add_two.ensures.others c.parts_of-id.result.0 c.add.ensures.here)
+          (λ q lo hi. two_listed (is_listed c.add_two.new.pool) c.len-count.result q c.add_two.ensures.here c.add_two.ensures.next (omega (arith, lo, n)) (omega (arith, hi, grown, n))) c.self.invariant.covered));
+      candidate_room = omega (arith, o, cands, added, added_two);
+      candidate_below = omega (arith, o, listed_below, kept_listed, kept_listed_two, more_records, long);
+      queued = rw (made, reverse-push c.self.inside.journal.entries e0, all) (record { same_order = c.join_children.ensures.order ∙ c.self.invariant.queued.same_order; each = queued });
+      waiting_room = omega (arith, o, old, wide);
+      waiting_below = omega (arith, o, below, kept_below, more_records, long);
+      outs_is = now;
       follows = split_done _ _ _ _ _ _ _ _ _ _ _ _ _ _ c.parts_of-id.result.0 c.args.seat c.len-count.result c.args.lease c.args.outcome c.in-Split.common c.in-Split.column c.in-Split.at c.in-Split.left c.in-Split.right c.index_mut-parent.result.now _ _ c.parts_of-id.result.1 _ _ _
           c.self.invariant.follows f e c.push_reserved-in-Split-3.ensures.room
           (c.push_reserved-in-Split-2.ensures.capacity ∙ c.push_reserved-in-Split.ensures.capacity)
@@ -244,13 +303,23 @@ have_points-left_open-requires-clause-high c =
     let same = ap (λ (d : Desc Cut). length d.highs) full in
     omega (arith, whole, column, same)
 
-pub append_two-requires-in-Split-clause-room : goal.append_two-requires-in-Split-clause-room
-append_two-requires-in-Split-clause-room c =
+pub add_two-requires-clause-room : goal.add_two-requires-clause-room
+add_two-requires-clause-room c =
     let lid : c.parts_of-id.result.0 ≡ c.args.lease.id = c.parts_of-id.ensures.id in
     let f = put_facts c.self.inside.problem c.self.inside.settings c.self.inside.journal.entries c.args.self.now c.args.seat c.args.lease c.args.outcome c.parts_of-id.result.0 _
     c.self.view_is lid c.in-Split.is c.requires in
     let o = out_counted _ _ _ _ _ _ _ _ c.parts_of-id.result.0 c.args.seat c.self.inside.outs c.self.invariant.follows f.may.is_out c.self.invariant.outs_is in
     let room = c.self.invariant.candidate_room in
-    let longer = ap length c.push_reserved.ensures.items ∙ length-append c.self.inside.candidates.items (c.parts_of-id.result.0 ∷ []) in
-    let wide = c.push_reserved.ensures.capacity in
-    omega (arith, o, room, longer, wide)
+    let added = c.add.ensures.room in
+    omega (arith, o, room, added)
+
+pub add_two-requires-clause-below : goal.add_two-requires-clause-below
+add_two-requires-clause-below c =
+    let lid : c.parts_of-id.result.0 ≡ c.args.lease.id = c.parts_of-id.ensures.id in
+    let f = put_facts c.self.inside.problem c.self.inside.settings c.self.inside.journal.entries c.args.self.now c.args.seat c.args.lease c.args.outcome c.parts_of-id.result.0 _
+    c.self.view_is lid c.in-Split.is c.requires in
+    let o = out_counted _ _ _ _ _ _ _ _ c.parts_of-id.result.0 c.args.seat c.self.inside.outs c.self.invariant.follows f.may.is_out c.self.invariant.outs_is in
+    let below = c.self.invariant.candidate_below in
+    let kept = c.add.ensures.below in
+    let len : c.len-count.result ≡ length c.self.inside.records.items = search rules in
+    omega (arith, o, below, kept, len)
