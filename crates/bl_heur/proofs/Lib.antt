@@ -2,4 +2,5 @@ pub mod Inside
 pub mod Feasible
 pub mod Free
 pub mod Dived
+pub mod Pinned
 pub mod Ending

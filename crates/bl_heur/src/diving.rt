@@ -16,7 +16,7 @@ use std::alloc::{AllocError, Global};
 const MOST_PASSES: usize = 20;
 
 // Passes until one changes nothing, but at most 20. False where one shows that no point is left.
-fn propagate(alloc: Global, problem: &Problem, desc: &mut Desc<Cut>) -> Result<bool, AllocError>
+pub fn propagate(alloc: Global, problem: &Problem, desc: &mut Desc<Cut>) -> Result<bool, AllocError>
     requires suits { Describes problem.now desc.old }
     ensures exact { IfOk result (λ some. propagated 20 problem.now desc.old ≡ (if some then Some desc.new else None)) }
     ensures suits { OnOk result (Describes problem.now desc.new) }
@@ -50,7 +50,7 @@ fn descend(alloc: Global, problem: &Problem, desc: &mut Desc<Cut>) -> Result<boo
 }
 
 // The point, where it is feasible and in the description's box.
-fn tested(problem: &Problem, desc: &Desc<Cut>, point: Items<i64>) -> Option<Items<i64>>
+pub fn tested(problem: &Problem, desc: &Desc<Cut>, point: Items<i64>) -> Option<Items<i64>>
     requires suits { Describes problem.now desc.now }
     requires width { length point ≡ length desc.now.lows }
     ensures { IsTestOf (IsFound problem.now desc.now) point result }

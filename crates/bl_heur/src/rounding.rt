@@ -14,7 +14,7 @@ use std::alloc::{AllocError, Global};
 
 // The nearest whole number, moved to between low and high.
 #[tactic(auto, using(std::proofs::lemmas::Int::clamps))]
-fn entry(value: Fixed, low: i64, high: i64) -> i64
+pub fn entry(value: Fixed, low: i64, high: i64) -> i64
     requires { low ≤ℤ high }
     ensures exact { result ≡ entry_of value low high }
     ensures above { low ≤ℤ result }

@@ -10,7 +10,10 @@ use Rattle.bl_desc.specs.declared.desc.Desc.{Desc}
 use Rattle.bl_node.specs.declared.working.Working.{Working}
 use Rattle.std.proofs.lemmas.List.{length-append}
 use Rattle.bl_node.specs.declared.state.State.{State}
+use Rattle.bl_problem.specs.Program.{Program}
+use Rattle.bl_cover.specs.declared.separator.Try.{Try}
 use Rattle.bl_node.specs.Names.{AreNamedBelow, AreNumbered, AreNamed}
+use Rattle.bl_node.specs.Tried.{IsTried, AreTried}
 use Rattle.bl_node.proofs.Adding.{fresh-push}
 use Rattle.bl_node.specs.Standing.{IsNewTo}
 
@@ -60,13 +63,18 @@ numbered-push : (seat serial n : ℕ) (cuts : List Cut) (cut : Cut) → AreNumbe
 numbered-push seat serial n [] cut a e h = (h ∙ ap (λ (k : ℕ). record { seat = seat; serial = k }) (omega (arith, e)), tt)
 numbered-push seat serial n (c ∷ cuts) cut a e h = (a.0, numbered-push seat (serial + 1) n cuts cut a.1 (omega (arith, e)) h)
 
+-- a cut of the next name is one that the node's description lacks
+fresh-added : (f : Desc Cut) (s : State) (w : Working) (cut : Cut) → w.desc.cuts ≡ s.work.desc.cuts ++ cut ∷ [] → cut.id ≡ record { seat = s.limits.seat; serial = s.limits.serial + s.made } → AreNamed f s
+    → fresh_in (λ (c : Cut). c.id) f.cuts w.desc.cuts ≡ fresh_in (λ (c : Cut). c.id) f.cuts s.work.desc.cuts ++ cut ∷ []
+fresh-added f s w cut e h n =
+    let new : has_id (λ (c : Cut). c.id) cut.id f.cuts ≡ false = rw h (lacks-next s.limits.seat (s.limits.serial + s.made) f.cuts (λ i d l t. let b = n.parent_below i d l t in omega (arith, b))) in
+    ap (fresh_in (λ (c : Cut). c.id) f.cuts) e ∙ fresh-push (λ (c : Cut). c.id) f.cuts s.work.desc.cuts cut new
+
 -- the state with one more cut, which carries the next name
 pub named-added : (f : Desc Cut) (s : State) (w : Working) (cut : Cut) → w.desc.cuts ≡ s.work.desc.cuts ++ cut ∷ [] → cut.id ≡ record { seat = s.limits.seat; serial = s.limits.serial + s.made }
     → s.made < s.limits.new_cuts → AreNamed f s → AreNamed f (record { work = w; limits = s.limits; made = s.made + 1; is_shut = s.is_shut })
 named-added f s w cut e h few n =
-    let new : has_id (λ (c : Cut). c.id) cut.id f.cuts ≡ false = rw h (lacks-next s.limits.seat (s.limits.serial + s.made) f.cuts (λ i d l t. let b = n.parent_below i d l t in omega (arith, b))) in
-    let fresh : fresh_in (λ (c : Cut). c.id) f.cuts w.desc.cuts ≡ fresh_in (λ (c : Cut). c.id) f.cuts s.work.desc.cuts ++ cut ∷ [] =
-    ap (fresh_in (λ (c : Cut). c.id) f.cuts) e ∙ fresh-push (λ (c : Cut). c.id) f.cuts s.work.desc.cuts cut new in
+    let fresh = fresh-added f s w cut e h n in
     let made = n.made in
     record {
       numbered = rw fresh (numbered-push s.limits.seat s.limits.serial (s.limits.serial + s.made) (fresh_in (λ (c : Cut). c.id) f.cuts s.work.desc.cuts) cut n.numbered (omega (arith, made)) h);
@@ -75,6 +83,12 @@ named-added f s w cut e h few n =
       parent_below = n.parent_below;
       below = rw e (λ i d l t. let b = named-more s.work.desc.cuts cut s.limits.seat (s.limits.serial + s.made) h n.below i d l t in omega (arith, b));
     }
+
+-- and which comes from a try
+pub tried-added : (allows : Desc Cut → Try → Type 0) (p : Program) (f : Desc Cut) (s : State) (w : Working) (cut : Cut) → w.desc.cuts ≡ s.work.desc.cuts ++ cut ∷ []
+    → cut.id ≡ record { seat = s.limits.seat; serial = s.limits.serial + s.made } → AreNamed f s → IsTried allows p f cut → AreTried allows p f s
+    → AreTried allows p f (record { work = w; limits = s.limits; made = s.made + 1; is_shut = s.is_shut })
+tried-added allows p f s w cut e h n t a = rw (fresh-added f s w cut e h n) (All-push (IsTried allows p f) (fresh_in (λ (c : Cut). c.id) f.cuts s.work.desc.cuts) cut a t)
 
 -- and its name is new
 pub new-name : (f : Desc Cut) (s : State) (cut : Cut) → cut.id ≡ record { seat = s.limits.seat; serial = s.limits.serial + s.made } → AreNamed f s → IsNewTo f s.work cut

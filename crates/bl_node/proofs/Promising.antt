@@ -5,6 +5,7 @@ use Rattle.bl_bound.specs.Bounds.{bound_of}
 use Rattle.std.specs.declared.result.Result.{Result}
 use Rattle.std.specs.Int.{int_min}
 use Rattle.std.proofs.lemmas.Int.{ints, clamps}
+use Rattle.std.proofs.lemmas.List.Elements.{All-nil}
 use Rattle.bl_problem.specs.Program.{Program}
 use Rattle.bl_problem.specs.Points.{value_of}
 use Rattle.bl_problem.specs.declared.cut.Cut.{Cut}
@@ -25,9 +26,11 @@ use Rattle.bl_node.specs.Standing.{box_of, Stands, Narrows, Knows, Leaves, IsAbo
 use Rattle.bl_mods.specs.Mods.{fresh_in}
 use Rattle.bl_node.specs.declared.limits.Limits.{Limits}
 use Rattle.bl_node.specs.declared.state.State.{State}
-use Rattle.bl_node.specs.Names.{AreNamed, AddsFew}
+use Rattle.bl_cover.specs.declared.separator.Try.{Try}
+use Rattle.bl_node.specs.Names.{AreNamed}
+use Rattle.bl_node.specs.Tried.{IsTried, AreTried}
 use Rattle.bl_node.specs.Outcomes.{IsSplitAt}
-use Rattle.bl_node.specs.Promise.{SplitsAsPromised, IsCutOff}
+use Rattle.bl_node.specs.Promise.{AddsCuts, SplitsAsPromised, IsCutOff}
 use Rattle.bl_node.proofs.Shrinking.{met_later}
 
 pub stands-open : (p : Program) (f : Desc Cut) (cutoff : Option ℤ) (pass : Pass) (w : Working) → (pass ≡ Shut → ⊥) → Knows p f cutoff pass w → Stands p f cutoff w
@@ -76,14 +79,15 @@ cut_off-seen p f cutoff w s u e =
     ap (is_reached w.low) (s.best_is ∙ ap (λ (o : Option ℤ). cutoff_with p o w.found) e.cutoff_is) ∙ reached-by p e.limit w.low w.found l
 
 -- the cuts of a split are those that the node's description lacks
-pub adds-few : (f : Desc Cut) (form : Form) (P : Place → Type 0) (limits : Limits) (st : State) (w : Working) (o : Outcome) → st.limits ≡ limits → AreNamed f st → w.desc.cuts ≡ st.work.desc.cuts
-    → IsSplitAt P f w form o → AddsFew limits o.next
-adds-few f form P limits st w o l n c (inl e) = rw e (record { numbered = tt; few = omega arith })
-adds-few f form P limits st w o l n c (inr t) =
+pub adds-cuts : (allows : Desc Cut → Try → Type 0) (p : Program) (f : Desc Cut) (form : Form) (P : Place → Type 0) (limits : Limits) (st : State) (w : Working) (o : Outcome) → st.limits ≡ limits → AreNamed f st → AreTried allows p f st → w.desc.cuts ≡ st.work.desc.cuts
+    → IsSplitAt P f w form o → AddsCuts allows p f limits o.next
+adds-cuts allows p f form P limits st w o l n t c (inl e) = rw e (record { numbered = tt; few = omega arith; tried = All-nil (IsTried allows p f) })
+adds-cuts allows p f form P limits st w o l n t c (inr s) =
     let added : fresh_in (λ (k : Cut). k.id) f.cuts w.desc.cuts ≡ fresh_in (λ (k : Cut). k.id) f.cuts st.work.desc.cuts = ap (fresh_in (λ (k : Cut). k.id) f.cuts) c in
-    rw t.1.1.next (record {
+    rw s.1.1.next (record {
       numbered = rw (added, sym l) n.numbered;
       few = let m = n.made in let k = n.few in rw (added, sym l) (omega (arith, m, k));
+      tried = rw added t;
     })
 
 -- what holds of an outcome, if there is one

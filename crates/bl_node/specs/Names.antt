@@ -3,9 +3,6 @@ use Rattle.std.specs.Prelude.{◌≡◌, ℕ, ◌+◌, ◌<◌, ◌≤◌, List,
 use Rattle.bl_mods.specs.Mods.{fresh_in}
 use Rattle.bl_problem.specs.declared.cut.Cut.{Cut}
 use Rattle.bl_desc.specs.declared.desc.Desc.{Desc}
-use Rattle.bl_journal.specs.declared.outcome.Next.{Next}
-use Rattle.bl_journal.specs.declared.outcome.Next.TheVariants.{Shut, Split}
-use Rattle.bl_node.specs.declared.limits.Limits.{Limits}
 use Rattle.bl_node.specs.declared.state.State.{State}
 
 -- the cuts of this seat have numbers below `next`
@@ -24,13 +21,3 @@ pub record AreNamed (f : Desc Cut) (s : State) : Type 0 where
   pub few : s.made ≤ s.limits.new_cuts
   pub parent_below : AreNamedBelow s.limits.seat s.limits.serial f.cuts
   pub below : AreNamedBelow s.limits.seat (s.limits.serial + s.made) s.work.desc.cuts
-
--- the cuts that an outcome adds
-abbrev pub added_in : Next → List Cut
-added_in Shut = []
-added_in (Split common column at left right) = common.cuts.added
-
--- the added cuts are numbered on from the serial number, and no more than may be
-pub record AddsFew (limits : Limits) (next : Next) : Type 0 where
-  pub numbered : AreNumbered limits.seat limits.serial (added_in next)
-  pub few : length (added_in next) ≤ limits.new_cuts

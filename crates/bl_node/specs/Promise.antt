@@ -1,5 +1,5 @@
 -- What the work on a node promises.
-use Rattle.std.specs.Prelude.{◌≡◌, ◌⊎◌, ℕ, ℤ, pos, ◌≤ℤ◌, ◌<ℤ◌, ◌<◌, List, length, All, Option, Some, None, IfSome}
+use Rattle.std.specs.Prelude.{◌≡◌, ◌⊎◌, ℕ, ℤ, pos, ◌≤ℤ◌, ◌<ℤ◌, ◌<◌, ◌≤◌, List, [], length, All, Option, Some, None, IfSome}
 use Rattle.bl_num.specs.Exact.{at}
 use Rattle.bl_problem.specs.Program.{Program}
 use Rattle.bl_problem.specs.Points.{IsFeasible, value_of}
@@ -11,7 +11,8 @@ use Rattle.bl_bound.specs.Bounds.{bound_of}
 use Rattle.bl_bound.specs.Units.{AreUnit}
 use Rattle.bl_prop.specs.Answers.{tightened_of}
 use Rattle.bl_journal.specs.declared.outcome.Outcome.{Outcome}
-use Rattle.bl_journal.specs.declared.outcome.Next.TheVariants.{Shut as ShutNext}
+use Rattle.bl_journal.specs.declared.outcome.Next.{Next}
+use Rattle.bl_journal.specs.declared.outcome.Next.TheVariants.{Shut as ShutNext, Split as SplitNext}
 use Rattle.bl_journal.specs.Soundness.{IsSound}
 use Rattle.bl_branch.specs.declared.place.Place.{Place}
 use Rattle.bl_branch.specs.Calls.{Calls, Answers}
@@ -19,8 +20,21 @@ use Rattle.bl_node.specs.declared.working.Working.{Working}
 use Rattle.bl_node.specs.Boxes.{BoxMeets, decisions_in, SaysEmpty}
 use Rattle.bl_node.specs.Standing.{box_of, IsAboveUnits, Narrows}
 use Rattle.bl_node.specs.declared.limits.Limits.{Limits}
-use Rattle.bl_node.specs.Names.{AddsFew}
+use Rattle.bl_cover.specs.declared.separator.Try.{Try}
+use Rattle.bl_node.specs.Names.{AreNumbered}
+use Rattle.bl_node.specs.Tried.{IsTried}
 use Rattle.bl_node.specs.Outcomes.{IsSplitOf, step_of, form_of}
+
+-- the cuts that an outcome adds
+abbrev pub added_in : Next → List Cut
+added_in ShutNext = []
+added_in (SplitNext common column at left right) = common.cuts.added
+
+-- the added cuts are numbered on from the serial number, and no more than may be, and come from tries that are allowed
+pub record AddsCuts (allows : Desc Cut → Try → Type 0) (p : Program) (f : Desc Cut) (limits : Limits) (next : Next) : Type 0 where
+  pub numbered : AreNumbered limits.seat limits.serial (added_in next)
+  pub few : length (added_in next) ≤ limits.new_cuts
+  pub tried : All (IsTried allows p f) (added_in next)
 
 -- the node is split at a place that the rule answers, after a common change whose box meets each decision of the first pass; its low is at least each unit bound
 pub record SplitsAsPromised {F : Type 0} (g : Calls F) (closure : F) (p : Program) (f : Desc Cut) (form : Form) (o : Outcome) : Type 0 where
@@ -55,10 +69,10 @@ pub record IsTested (p : Program) (f : Desc Cut) (cutoff : Option ℤ) (o : Outc
   pub shut : o.next ≡ ShutNext
   pub found : ((o.found ≡ Some f.lows) × (IsFeasible p f.lows × IsBelowCutoff p cutoff f.lows)) ⊎ ((o.found ≡ None) × ((IsFeasible p f.lows × IsBelowCutoff p cutoff f.lows) → ⊥))
 
-pub record IsPromised {F : Type 0} (g : Calls F) (closure : F) (p : Program) (f : Desc Cut) (cutoff : Option ℤ) (limits : Limits) (o : Outcome) : Type 0 where
+pub record IsPromised {F : Type 0} (g : Calls F) (closure : F) (allows : Desc Cut → Try → Type 0) (p : Program) (f : Desc Cut) (cutoff : Option ℤ) (limits : Limits) (o : Outcome) : Type 0 where
   pub sound : IsSound p f cutoff o.found o.low (step_of o.next)
   pub empty : SaysEmpty (tightened_of p f) → o.next ≡ ShutNext
   pub cut_off : IsCutOff p f cutoff → o.next ≡ ShutNext
   pub split : (o.next ≡ ShutNext) ⊎ SplitsAsPromised g closure p f (form_of limits) o
-  pub adds : AddsFew limits o.next
+  pub adds : AddsCuts allows p f limits o.next
   pub single : HasOnePoint f → IsTested p f cutoff o

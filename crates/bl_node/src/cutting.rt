@@ -1,11 +1,14 @@
 // Cuts at the root: those that a separator proposes are kept where they raise the bound.
-ghost use Rattle.std.specs.Prelude.{◌≡◌, ◌+◌, ◌<◌, ◌^◌, pos, ◌≤ℤ◌, length, All, IfOk, IfSome, true, false};
+ghost use Rattle.std.specs.Prelude.{◌≡◌, ◌+◌, ◌<◌, ◌^◌, pos, ◌≤ℤ◌, length, All, IfOk, IfSome, Ok, true, false};
 ghost use Rattle.bl_problem.specs.Sums.{IsWithin};
 ghost use Rattle.bl_bound.specs.Descriptions.{Describes};
 ghost use Rattle.bl_cover.specs.Tries.{HasShape};
 ghost use Rattle.bl_node.specs.Names.{AreNamed};
 ghost use Rattle.bl_node.specs.Standing.{IsNode, IsMade};
-ghost use Rattle.bl_node.specs.Moves.{IsOpen, Moves};
+ghost use Rattle.bl_node.specs.Moves.{IsOpen, CutMoves};
+ghost use Rattle.bl_node.specs.Tried.{Gives};
+ghost use Rattle.bl_cuts.specs.Answers.{derived_of};
+ghost use Rattle.bl_cover.specs.Covers.{cover_of};
 
 use crate::state::State;
 use crate::steps::add_cut;
@@ -32,7 +35,8 @@ fn derived(
     requires suits { Describes problem.now desc.now }
     requires weights { length weights.now ≡ length problem.now.rows + length desc.now.cuts }
     requires counted { pos 1 ≤ℤ q }
-    ensures { IfOk result (λ made. IfSome made (IsMade problem.now desc.now id)) }
+    ensures made { IfOk result (λ made. IfSome made (IsMade problem.now desc.now id)) }
+    ensures gives { IfOk result (λ made. IfSome made (λ cut. derived_of problem.now desc.now.cuts weights.now q id ≡ Ok cut)) }
 {
     match derive(alloc, problem, desc.cuts.as_slice(), weights, q, id) {
         Ok(cut) => Ok(Some(cut)),
@@ -51,7 +55,8 @@ fn covered(
     id: ItemId,
 ) -> Result<Option<Cut>, AllocError>
     requires { row < length problem.now.rows }
-    ensures { IfOk result (λ made. IfSome made (IsMade problem.now desc.now id)) }
+    ensures made { IfOk result (λ made. IfSome made (IsMade problem.now desc.now id)) }
+    ensures gives { IfOk result (λ made. IfSome made (λ cut. cover_of problem.now row columns.now id ≡ Ok cut)) }
 {
     match cover_cut(alloc, problem, row, columns, id) {
         Ok(cut) => Ok(Some(cut)),
@@ -70,7 +75,8 @@ fn cut_of(
 ) -> Result<Option<Cut>, AllocError>
     requires suits { Describes problem.now desc.now }
     requires shape { HasShape problem.now desc.now tried.now }
-    ensures { IfOk result (λ made. IfSome made (IsMade problem.now desc.now id)) }
+    ensures made { IfOk result (λ made. IfSome made (IsMade problem.now desc.now id)) }
+    ensures gives { IfOk result (λ made. IfSome made (Gives problem.now desc.now id tried.now)) }
 {
     match tried {
         Try::Weights(pick) => derived(alloc, problem, desc, pick.weights.as_slice(), pick.q, id),
@@ -95,7 +101,7 @@ pub fn add_proposed<S: Separate>(
     requires room { state.old.limits.serial + state.old.limits.new_cuts < 2 ^ 32 }
     requires width { length point.now ≡ length problem.now.columns }
     requires near { All (λ x. IsWithin (2 ^ 70) x.raw) point.now }
-    ensures { IfOk result (λ added. Moves problem.now parent.now state.old state.new) }
+    ensures { IfOk result (λ added. CutMoves (S.allows separator.now problem.now) problem.now parent.now state.old state.new) }
 {
     if state.limits.new_cuts <= state.made || MOST_CUTS <= state.work.desc.cuts.len() {
         return Ok(false);

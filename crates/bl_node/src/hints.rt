@@ -6,6 +6,12 @@ use std::alloc::{AllocError, Global};
 /// So many are kept.
 const MOST_HINTS: usize = 2;
 
+/// A dive follows one in so many proposals while no point is known.
+const DIVES_WITHOUT_POINT: u32 = 8;
+
+/// A dive follows one in so many proposals once a point is known.
+const DIVES: u32 = 32;
+
 // A multiplier for each row, and their common denominator.
 #[derive(Drop)]
 pub struct Multipliers {
@@ -14,12 +20,14 @@ pub struct Multipliers {
 }
 
 /// What the work on earlier nodes of the same problem leaves to that on later ones: the multipliers
-/// of the last few proposals, and the linear program as the simplex wants it. Nothing rests on them.
+/// of the last few proposals, the linear program as the simplex wants it, and how many proposals
+/// there were. Nothing rests on them.
 #[derive(Drop)]
 pub struct Hints {
     recent: Vec<Multipliers>,
     next: usize,
     prepared: Option<Prepared>,
+    proposals: u32,
 }
 
 impl Hints {
@@ -29,6 +37,18 @@ impl Hints {
             recent: Vec::new(alloc),
             next: 0,
             prepared: None,
+            proposals: 0,
+        }
+    }
+
+    // Counts a proposal. Whether a dive is to follow it.
+    pub fn is_dive_due(&mut self, is_point_known: bool) -> bool {
+        let before = self.proposals;
+        self.proposals = before.wrapping_add(1);
+        if is_point_known {
+            before % DIVES == 0
+        } else {
+            before % DIVES_WITHOUT_POINT == 0
         }
     }
 

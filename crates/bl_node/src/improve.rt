@@ -3,7 +3,7 @@ ghost use Rattle.std.specs.Prelude.{◌≡◌, ◌+◌, ◌<◌, ◌^◌, length
 ghost use Rattle.bl_problem.specs.Sums.{IsWithin};
 ghost use Rattle.bl_node.specs.Names.{AreNamed};
 ghost use Rattle.bl_node.specs.Standing.{IsNode};
-ghost use Rattle.bl_node.specs.Moves.{IsOpen, Moves};
+ghost use Rattle.bl_node.specs.Moves.{IsOpen, Moves, CutMoves};
 
 use crate::cutting::add_proposed;
 use crate::guess::{Guess, most_fractional, whole_below};
@@ -16,7 +16,8 @@ use crate::statuses::{Statuses, restate};
 use bl_cover::Separate;
 use bl_desc::Desc;
 use bl_fixed::Fixed;
-use bl_heur::round_point;
+use bl_grid::lowered;
+use bl_heur::{guided_dive, round_point};
 use bl_problem::{Cut, Decision, Problem, Side};
 use bl_simplex::{Proposal, propose_below};
 use std::alloc::{AllocError, Global};
@@ -67,6 +68,29 @@ fn try_points(
         return Ok(());
     }
     let point = round_point(alloc, problem, &state.work.desc, proposal.point.as_slice())?;
+    if let Some(point) = point {
+        offer(problem, parent, state, point);
+    }
+    Ok(())
+}
+
+// Now and then a dive by the proposal's point looks for a feasible one.
+fn try_dive(
+    alloc: Global,
+    problem: &Problem,
+    parent: &Desc<Cut>,
+    state: &mut State,
+    hints: &mut Hints,
+    proposal: &Proposal,
+) -> Result<(), AllocError>
+    requires within { IsOpen problem.now parent.now state.old }
+    requires node { IsNode problem.now parent.now }
+    ensures { OnOk result (Moves problem.now parent.now state.old state.new) }
+{
+    if state.is_shut || !hints.is_dive_due(state.work.best.is_some()) {
+        return Ok(());
+    }
+    let point = guided_dive(alloc, problem, &state.work.desc, proposal.point.as_slice())?;
     if let Some(point) = point {
         offer(problem, parent, state, point);
     }
@@ -233,11 +257,16 @@ fn round(
     requires node { IsNode problem.now parent.now }
     ensures { IfOk result (λ guess. Moves problem.now parent.now state.old state.new) }
 {
-    let (pivots, cutoff) = (state.limits.pivots, state.work.best);
+    let pivots = state.limits.pivots;
+    let cutoff = match state.work.best {
+        Some(best) => Some(lowered(problem, best)),
+        None => None,
+    };
     let prepared = hints.prepared(alloc, problem)?;
     let proposal = propose_below(alloc, problem, prepared, &state.work.desc, pivots, cutoff)?;
     learn(problem, parent, state, &proposal);
     try_points(alloc, problem, parent, state, &proposal)?;
+    try_dive(alloc, problem, parent, state, hints, &proposal)?;
     if !state.is_shut {
         keep_hint(alloc, problem, hints, &proposal)?;
     }
@@ -309,7 +338,7 @@ fn cut_round<S: Separate>(
     requires node { IsNode problem.now parent.now }
     requires named { AreNamed parent.now state.old }
     requires room { state.old.limits.serial + state.old.limits.new_cuts < 2 ^ 32 }
-    ensures { IfOk result (λ guess. Moves problem.now parent.now state.old state.new) }
+    ensures { IfOk result (λ guess. CutMoves (S.allows separator.now problem.now) problem.now parent.now state.old state.new) }
 {
     if !is_open(problem, parent, state) || !is_near(problem, point) {
         return Ok(None);
@@ -338,7 +367,7 @@ fn cut_rounds<S: Separate>(
     requires node { IsNode problem.now parent.now }
     requires named { AreNamed parent.now state.old }
     requires room { state.old.limits.serial + state.old.limits.new_cuts < 2 ^ 32 }
-    ensures { IfOk result (λ guess. Moves problem.now parent.now state.old state.new) }
+    ensures { IfOk result (λ guess. CutMoves (S.allows separator.now problem.now) problem.now parent.now state.old state.new) }
 {
     let mut last = cut_round(alloc, problem, parent, separator, state, hints, first)?;
     let mut stalls = 0;
@@ -384,7 +413,7 @@ fn try_cuts<S: Separate>(
     requires node { IsNode problem.now parent.now }
     requires named { AreNamed parent.now state.old }
     requires room { state.old.limits.serial + state.old.limits.new_cuts < 2 ^ 32 }
-    ensures { IfOk result (λ guess. Moves problem.now parent.now state.old state.new) }
+    ensures { IfOk result (λ guess. CutMoves (S.allows separator.now problem.now) problem.now parent.now state.old state.new) }
 {
     let mut trial = state.duplicate()?;
     let point = guess.point.as_slice();
@@ -414,7 +443,7 @@ pub fn improve<S: Separate>(
     requires node { IsNode problem.now parent.now }
     requires named { AreNamed parent.now state.old }
     requires room { state.old.limits.serial + state.old.limits.new_cuts < 2 ^ 32 }
-    ensures { IfOk result (λ guess. Moves problem.now parent.now state.old state.new) }
+    ensures { IfOk result (λ guess. CutMoves (S.allows separator.now problem.now) problem.now parent.now state.old state.new) }
 {
     propagate(alloc, problem, parent, state)?;
     use_hints(alloc, problem, parent, state, hints)?;

@@ -8,8 +8,10 @@ ghost use Rattle.std.specs.Prelude.{◌⊎◌};
 ghost use Rattle.bl_prop.specs.Answers.{tightened_of};
 ghost use Rattle.bl_journal.specs.declared.outcome.Next.TheVariants.{Shut};
 ghost use Rattle.bl_node.specs.Boxes.{Shrinks, BoxMeets, decisions_in, HasStatusesOf};
-ghost use Rattle.bl_node.specs.Names.{AreNamedBelow, AddsFew};
-ghost use Rattle.bl_node.specs.Promise.{IsPromised, SplitsAsPromised};
+ghost use Rattle.bl_cover.specs.Tries.{AllowedBy};
+ghost use Rattle.bl_cover.specs.declared.separator.CutKinds.TheVariants.{Rows as RowsKind};
+ghost use Rattle.bl_node.specs.Names.{AreNamedBelow};
+ghost use Rattle.bl_node.specs.Promise.{AddsCuts, IsPromised, SplitsAsPromised};
 ghost use Rattle.bl_node.specs.Standing.{box_of, OfAllInQuestion, Stands, Narrows, IsNode, IsAboveUnits};
 ghost use Rattle.bl_node.specs.Outcomes.{HasFewStatuses, IsSplitOf, IsGood, IsSplitAt, form_of};
 
@@ -116,7 +118,7 @@ fn after_pass<F: Fn(&Desc<Cut>, &[Fixed]) -> Place, S: Separate>(
     requires units { IsAboveUnits problem.now parent.now work.low }
     requires names { AreNamedBelow limits.now.seat limits.now.serial parent.now.cuts }
     requires cuts { work.desc.cuts ≡ parent.now.cuts }
-    ensures adds { IfOk result (λ o. AddsFew limits.now o.next) }
+    ensures adds { IfOk result (λ o. AddsCuts (S.allows separator.now problem.now) problem.now parent.now limits.now o.next) }
     ensures sound { IfOk result (λ o. (cutoff : _) → Stands problem.now parent.now cutoff work → IsGood problem.now parent.now cutoff o) }
     ensures split { IfOk result (λ o. (o.next ≡ Shut) ⊎ SplitsAsPromised F.Fn rule.now.closure problem.now parent.now (form_of limits.now) o) }
 {
@@ -151,7 +153,7 @@ pub fn work<F: Fn(&Desc<Cut>, &[Fixed]) -> Place>(
     requires names { AreNamedBelow limits.now.seat limits.now.serial desc.now.cuts }
     requires room { limits.now.serial + limits.now.new_cuts < 2 ^ 32 }
     requires rule { IsRule F.Fn rule.now.closure }
-    ensures { IfOk result (IsPromised F.Fn rule.now.closure problem.now desc.now cutoff limits.now) }
+    ensures { IfOk result (IsPromised F.Fn rule.now.closure (AllowedBy RowsKind problem.now) problem.now desc.now cutoff limits.now) }
 {
     let separator = KindSeparator::new(CutKinds::Rows);
     work_with(alloc, problem, desc, cutoff, rule, &separator, limits)
@@ -172,7 +174,7 @@ pub fn work_with<F: Fn(&Desc<Cut>, &[Fixed]) -> Place, S: Separate>(
     requires names { AreNamedBelow limits.now.seat limits.now.serial desc.now.cuts }
     requires room { limits.now.serial + limits.now.new_cuts < 2 ^ 32 }
     requires rule { IsRule F.Fn rule.now.closure }
-    ensures { IfOk result (IsPromised F.Fn rule.now.closure problem.now desc.now cutoff limits.now) }
+    ensures { IfOk result (IsPromised F.Fn rule.now.closure (S.allows separator.now problem.now) problem.now desc.now cutoff limits.now) }
 {
     let mut hints = Hints::new(alloc);
     work_hinted(
@@ -185,8 +187,9 @@ pub fn work_with<F: Fn(&Desc<Cut>, &[Fixed]) -> Place, S: Separate>(
 /// In question are the feasible points of the box whose value is below the cutoff, in units of
 /// 10^-scale (all, without a cutoff). The outcome is sound: it loses none of them. The node is shut
 /// where a pass of propagation shows that its box has none or where a unit bound reaches the cutoff;
-/// where it is split, the place is one that the rule answers. Whatever the separator proposes, the
-/// cuts that are added hold for every feasible point. The hints, which may hold anything, are used and
+/// where it is split, the place is one that the rule answers. Each added cut is what `derive` or
+/// `cover_cut` gives for a try that the separator may make at the description so far; whatever it
+/// proposes, the cuts hold for every feasible point. The hints, which may hold anything, are used and
 /// renewed. `AllocError` where there is no memory.
 pub fn work_hinted<F: Fn(&Desc<Cut>, &[Fixed]) -> Place, S: Separate>(
     alloc: Global,
@@ -203,7 +206,7 @@ pub fn work_hinted<F: Fn(&Desc<Cut>, &[Fixed]) -> Place, S: Separate>(
     requires names { AreNamedBelow limits.now.seat limits.now.serial desc.now.cuts }
     requires room { limits.now.serial + limits.now.new_cuts < 2 ^ 32 }
     requires rule { IsRule F.Fn rule.now.closure }
-    ensures { IfOk result (IsPromised F.Fn rule.now.closure problem.now desc.now cutoff limits.now) }
+    ensures { IfOk result (IsPromised F.Fn rule.now.closure (S.allows separator.now problem.now) problem.now desc.now cutoff limits.now) }
 {
     let mut work = start(problem, desc, cutoff)?;
     if is_cut_off(&work) {

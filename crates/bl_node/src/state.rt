@@ -14,6 +14,7 @@ use crate::working::{Pass, Working};
 use bl_bound::{ReducedCosts, bound, empty};
 use bl_desc::Desc;
 use bl_fix::fix_by as fix_reduced;
+use bl_grid::{lowered, raised};
 use bl_mods::Items;
 use bl_problem::{Cut, Decision, Problem};
 use std::alloc::{AllocError, Global};
@@ -81,6 +82,17 @@ fn are_multipliers(problem: &Problem, work: &Working, y: &[i64]) -> bool
     rows <= y.len() && y.len() - rows == work.desc.cuts.len()
 }
 
+// A bound of the points that are left raises the low, as far as no value lies between.
+fn raise_to(problem: &Problem, parent: &Desc<Cut>, state: &mut State, bound: i128)
+    requires within { IsOpen problem.now parent.now state.old }
+    requires open { state.old.is_shut ≡ false }
+    requires below { (x : List _) → IsLeft problem.now state.old.work.desc x → bound ≤ℤ value_of problem.now x }
+    ensures { Moves problem.now parent.now state.old state.new }
+{
+    raise(&mut state.work, raised(problem, bound));
+    close(problem, parent, state);
+}
+
 // The bound of multipliers over a common denominator raises the low.
 pub fn bound_by(problem: &Problem, parent: &Desc<Cut>, state: &mut State, y: &[i64], d: i64)
     requires { IsOpen problem.now parent.now state.old }
@@ -90,8 +102,7 @@ pub fn bound_by(problem: &Problem, parent: &Desc<Cut>, state: &mut State, y: &[i
         return;
     }
     if let Some(bound) = bound(problem, &state.work.desc, y, d) {
-        raise(&mut state.work, bound);
-        close(problem, parent, state);
+        raise_to(problem, parent, state, bound);
     }
 }
 
@@ -116,8 +127,7 @@ fn raise_by(problem: &Problem, parent: &Desc<Cut>, state: &mut State, reduced: &
     ensures { Moves problem.now parent.now state.old state.new }
 {
     if let Some(bound) = reduced.bound() {
-        raise(&mut state.work, bound);
-        close(problem, parent, state);
+        raise_to(problem, parent, state, bound);
     }
 }
 
@@ -136,9 +146,10 @@ pub fn fix_by(
     if state.is_shut || d < 1 || !are_multipliers(problem, &state.work, y) {
         return Ok(());
     }
-    let Some(cutoff) = state.work.best else {
+    let Some(best) = state.work.best else {
         return Ok(());
     };
+    let cutoff = lowered(problem, best);
     let reduced = ReducedCosts::new(problem, &state.work.desc, y, d);
     if !is_below(&reduced, cutoff) {
         raise_by(problem, parent, state, &reduced);

@@ -1,11 +1,14 @@
 use Rattle.std.proofs.Common.{rules}
+use Rattle.bl_problem.specs.declared.cut.Cut.{Cut}
+use Rattle.bl_desc.specs.declared.desc.Desc.{Desc}
+use Rattle.bl_cover.specs.declared.separator.Try.{Try}
 use Rattle.bl_node.specs.Outcomes.{form_of}
 use Rattle.bl_node.specs.Standing.{box_of}
 use Rattle.bl_node.proofs.Assembly.{sound-shut}
-use Rattle.bl_node.proofs.Moving.{known-first, named-first}
+use Rattle.bl_node.proofs.Moving.{known-first, named-first, tried-first}
 use Rattle.bl_node.proofs.Restating.{narrows-restated, shrinks-restated}
 use Rattle.bl_node.proofs.Shrinking.{shrinks_then}
-use Rattle.bl_node.proofs.Promising.{promised, adds-few, if-so}
+use Rattle.bl_node.proofs.Promising.{promised, adds-cuts, if-so}
 use Rattle.bl_node.proofs.Naming.{none-fresh}
 use Rattle.bl_branch.specs.Calls.{Answers}
 use Rattle.bl_node.proofs.node.after_pass.Goals as goal
@@ -39,9 +42,12 @@ returns-clause-adds g c =
     let mid = c.improve.new.state in
     let w = c.settle.new.work in
     let moves = c.in_ok-guess.ensures in
+    let p = c.args.problem.now in
+    let allows : Desc Cut → Try → Type 0 = g.S.Separate.allows c.args.separator.now c.args.problem.now in
     let first = named-first f c.args.work c.args.limits.now c.requires.cuts (none-fresh f.cuts) c.requires.names in
+    let none = tried-first allows p f c.args.work c.args.limits.now c.requires.cuts (none-fresh f.cuts) in
     if-so c.finish.result
-    (λ o h. adds-few f (form_of c.args.limits.now) (λ place. Answers g.F.Fn c.args.rule.now.closure w.desc _ place) c.args.limits.now mid w o moves.limits (moves.named first) c.in_ok-settle.ensures.same.cuts h)
+    (λ o h. adds-cuts allows p f (form_of c.args.limits.now) (λ place. Answers g.F.Fn c.args.rule.now.closure w.desc _ place) c.args.limits.now mid w o moves.limits (moves.cuts.named first) (moves.cuts.tried none) c.in_ok-settle.ensures.same.cuts h)
     c.finish.ensures.split
 
 pub improve-requires-clause-named : goal.improve-requires-clause-named

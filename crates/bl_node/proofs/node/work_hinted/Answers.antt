@@ -8,6 +8,8 @@ use Rattle.bl_node.specs.Standing.{IsAboveUnits}
 use Rattle.bl_node.proofs.Assembly.{sound-shut}
 use Rattle.bl_journal.specs.Soundness.{IsSound}
 use Rattle.bl_node.specs.Outcomes.{IsGood, step_of, form_of}
+use Rattle.bl_node.specs.Tried.{IsTried}
+use Rattle.std.proofs.lemmas.List.Elements.{All-nil}
 use Rattle.bl_node.proofs.Testing.{tested-shut, tested}
 use Rattle.bl_node.proofs.Promising.{stands-open, narrows-open, if-three, cut_off-seen}
 use Rattle.bl_node.proofs.node.work_hinted.Goals as goal
@@ -19,7 +21,7 @@ returns-then-is_cut_off g c =
     (c.is_cut_off.ensures.none c.if-is_cut_off.true c.args.problem.now c.args.desc.now c.args.cutoff c.in_ok-work.ensures.stands)) in
     record {
       sound = sound;
-      adds = rw c.shut.ensures.next (record { numbered = tt; few = omega arith });
+      adds = rw c.shut.ensures.next (record { numbered = tt; few = omega arith; tried = All-nil (IsTried (g.S.Separate.allows c.args.separator.now c.args.problem.now) c.args.problem.now c.args.desc.now) });
       empty = λ e. c.shut.ensures.next;
       cut_off = λ e. c.shut.ensures.next;
       split = inl c.shut.ensures.next;
@@ -33,7 +35,7 @@ returns-in-Shut g c =
     record {
       sound = sound;
       single = tested-shut c.args.problem.now c.args.desc.now c.args.cutoff c.shut-in-Shut.result c.requires.node c.requires.point sound (rw c.shut-in-Shut.ensures.found k.0.better) c.shut-in-Shut.ensures.next;
-      adds = rw c.shut-in-Shut.ensures.next (record { numbered = tt; few = omega arith });
+      adds = rw c.shut-in-Shut.ensures.next (record { numbered = tt; few = omega arith; tried = All-nil (IsTried (g.S.Separate.allows c.args.separator.now c.args.problem.now) c.args.problem.now c.args.desc.now) });
       empty = λ e. c.shut-in-Shut.ensures.next;
       cut_off = λ e. c.shut-in-Shut.ensures.next;
       split = inl c.shut-in-Shut.ensures.next;
