@@ -9,9 +9,9 @@ use Rattle.bl_problem.specs.Program.{IsName, IsVisible}
 use Rattle.bl_cards.specs.declared.kind.Act.{Act}
 use Rattle.bl_cards.specs.declared.kind.What.TheVariants as what
 use Rattle.bl_cards.specs.declared.kind.Section.{Section}
-use Rattle.bl_cards.specs.declared.kind.Section.TheVariants.{Start, Name, Rows, Columns, Rhs, Ranges, Bounds, End}
+use Rattle.bl_cards.specs.declared.kind.Section.TheVariants.{Start, Name, Objsense, Rows, Columns, Rhs, Ranges, Bounds, End}
 use Rattle.bl_cards.specs.Said.{Given, Card, RowLine, SetOf, Said, nothing_said, place_of, refuse, there_or}
-use Rattle.bl_cards.specs.Lines.{role_of, number_at, is_passed, is_first_set, with_set, has_given, add_given, given, given_two, given_line, act_of, has_number, bound_at, add_card, number_card, plain_card, number_words, plain_words, bounds_line, rows_line, columns_line, data_line, section_of, may_follow, section_line}
+use Rattle.bl_cards.specs.Lines.{role_of, number_at, is_passed, is_first_set, with_set, has_given, add_given, given, given_two, given_line, act_of, has_number, bound_at, add_card, number_card, plain_card, number_words, plain_words, bounds_line, rows_line, columns_line, data_line, section_of, may_follow, sense_line, lacks_word, opened_sense, section_line}
 use Rattle.bl_cards.specs.declared.reader.Whole.{Whole}
 use Rattle.bl_cards.specs.Reading.{spoken, after_line, is_end, said_from}
 use Rattle.bl_cards.specs.Coherence.{IsRead, IsSmall, IsGiven, IsCard, IsCoherent}
@@ -116,6 +116,10 @@ bounds_kept columns s new (kind ∷ words) h e =
 data_kept : (section : Section) (s new : Said) (words : List (List ℕ)) → IsCoherent s → All IsName words → data_line section s words ≡ Ok new → IsCoherent new
 data_kept Start s new words h w e = absurd cc
 data_kept Name s new words h w e = absurd cc
+data_kept Objsense s new words h w e =
+    let a = went (sense_line s.sense words) _ new e in
+    let is : record s { sense = a.x } ≡ new = cc in
+    rw (← is) (record { lines = h.lines; grid = h.grid; rhs = h.rhs; ranges = h.ranges; cards = h.cards })
 data_kept Rows s new words h w e =
     let a = went (rows_line s.rows words) _ new e in
     let is : record s { rows = a.x } ≡ new = cc in
@@ -138,17 +142,19 @@ data_kept Bounds s new words h w e =
     rw (← is) (record { lines = h.lines; grid = h.grid; rhs = h.rhs; ranges = h.ranges; cards = bounds_kept s.columns.names s.bounds a.x words h.cards a.is })
 data_kept End s new words h w e = absurd cc
 
-section_kept : (s new : Said) (word : List ℕ) → IsCoherent s → section_line s word ≡ Ok new → IsCoherent new
-section_kept s new word h e =
-    let a = went (there_or what.Section (section_of word)) _ new e in
+section_kept : (s new : Said) (name : List ℕ) (words : List (List ℕ)) → IsCoherent s → section_line s name words ≡ Ok new → IsCoherent new
+section_kept s new name words h e =
+    let a = went (there_or what.Section (section_of name)) _ new e in
     let b = went (refuse (not (may_follow s.section a.x)) what.Section) _ new a.then in
-    let is : record s { section = a.x } ≡ new = cc in
+    let g = went (refuse (lacks_word s.section s.sense) what.Words) _ new b.then in
+    let o = went (opened_sense a.x s.sense words) _ new g.then in
+    let is : record s { section = a.x; sense = o.x } ≡ new = cc in
     rw (← is) (record { lines = h.lines; grid = h.grid; rhs = h.rhs; ranges = h.ranges; cards = h.cards })
 
 spoken_kept : (s new : Said) (is_data : Bool) (words : List (List ℕ)) → IsCoherent s → All IsName words → spoken s is_data words ≡ Ok new → IsCoherent new
 spoken_kept s new is_data [] h w e = let is : s ≡ new = cc in rw (← is) h
 spoken_kept s new true (word ∷ words) h w e = data_kept s.section s new (word ∷ words) h w e
-spoken_kept s new false (word ∷ words) h w e = section_kept s new word h e
+spoken_kept s new false (name ∷ words) h w e = section_kept s new name words h e
 
 -- a byte that is neither a blank nor a line feed can be seen
 visible : (b : ℕ) → is_blank b ≡ false → b ≢ 10 → IsVisible b

@@ -11,6 +11,7 @@ use Rattle.bl_cards.proofs.Walks.{whole, fault_at, said_done, said_open, said_st
 use Rattle.bl_cards.proofs.SectionLaw.{read_by_sections}
 use Rattle.bl_cards.proofs.ColumnLaw.{named_by_lines}
 use Rattle.bl_cards.proofs.SetLaw.{given_by_lines}
+use Rattle.bl_cards.proofs.SenseLaw.{asked_by_lines}
 
 -- the line is n lines behind the start
 abbrev Told : ℕ → Said → List (List ℕ) → ℕ → What → Type 0
@@ -132,4 +133,5 @@ tells_lines bytes w e =
       sections = sections;
       named = named_by_lines (lines_of bytes) w.said sections;
       given = given_by_lines (lines_of bytes) w.said sections;
+      asked = asked_by_lines bytes w e;
     }

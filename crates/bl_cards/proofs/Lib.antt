@@ -12,4 +12,5 @@ pub mod CoherentLines
 pub mod SectionLaw
 pub mod ColumnLaw
 pub mod SetLaw
+pub mod SenseLaw
 pub mod FirstFault

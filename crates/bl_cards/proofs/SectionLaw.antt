@@ -1,16 +1,17 @@
 -- A file is read section by section.
-use Rattle.std.proofs.Common.{◌≡◌, ℕ, ◌+◌, ◌<◌, Bool, true, false, cond, not, ◌&&◌, List, [], ◌∷◌, ◌++◌, map, Result, Ok, refl, sym, ap, ◌∙◌, arith}
+use Rattle.std.proofs.Common.{◌≡◌, ℕ, ◌+◌, ◌<◌, Bool, true, false, cond, not, ◌&&◌, List, [], ◌∷◌, ◌++◌, map, Option, Some, Result, Ok, refl, sym, ap, ◌∙◌, arith}
 use Rattle.std.specs.Prelude.{◌==◌, nat_lt, nat_le, is_none, codes}
 use Rattle.std.proofs.lemmas.List.{map-append, append-nil, append_assoc}
 use Rattle.std.proofs.lemmas.Bool.Decides.{nat_tests}
 use Rattle.std.proofs.lemmas.Bool.{and_parts, not-false}
 use Rattle.bl_text.specs.Pieces.{is_blank, words_of, lines_of}
+use Rattle.bl_problem.specs.declared.problem.Sense.{Sense}
 use Rattle.bl_cards.specs.declared.kind.Section.{Section}
-use Rattle.bl_cards.specs.declared.kind.Section.TheVariants.{Start, Name, Rows, Columns, Rhs, Ranges, Bounds, End}
+use Rattle.bl_cards.specs.declared.kind.Section.TheVariants.{Start, Name, Objsense, Rows, Columns, Rhs, Ranges, Bounds, End}
 use Rattle.bl_cards.specs.declared.kind.What.{What}
 use Rattle.bl_cards.specs.declared.kind.What.TheVariants as what
 use Rattle.bl_cards.specs.Said.{same, Said, RowLine, Grid, nothing_said, refuse, there_or}
-use Rattle.bl_cards.specs.Lines.{role_for, role_of, has_objective, is_limited, count_limited, add_row, rows_line, columns_line, given_line, bounds_line, data_line, section_of, rank, may_follow, section_line}
+use Rattle.bl_cards.specs.Lines.{role_for, role_of, has_objective, is_limited, count_limited, add_row, rows_line, columns_line, given_line, bounds_line, data_line, section_of, rank, may_follow, sense_line, lacks_word, opened_sense, section_line}
 use Rattle.bl_cards.specs.declared.reader.Whole.{Whole}
 use Rattle.bl_cards.specs.Reading.{spoken, after_line, is_end, said_from, said_in}
 use Rattle.bl_cards.specs.Sections.{DataLine, is_data, words_said, named_or, section_behind, data_of, data_lines, lines_in, in_section, in_turn, second_word, IsReadBySections}
@@ -25,8 +26,8 @@ record Goes (s : Said) (ls : List DataLine) (t : Said) : Type 0 where
   ranges : in_turn (given_line true t.rows) s.ranges (in_section Ranges ls) ≡ Ok t.ranges
   bounds : in_turn (bounds_line t.columns.names) s.bounds (in_section Bounds ls) ≡ Ok t.bounds
   -- what is behind stays
-  kept_rows : 2 < rank s.section → s.rows ≡ t.rows
-  kept_columns : 3 < rank s.section → s.columns ≡ t.columns
+  kept_rows : 3 < rank s.section → s.rows ≡ t.rows
+  kept_columns : 4 < rank s.section → s.columns ≡ t.columns
 
 stops : (s : Said) → Goes s [] s
 stops s = record { rows = refl; columns = refl; rhs = refl; ranges = refl; bounds = refl; kept_rows = λ l. refl; kept_columns = λ l. refl }
@@ -38,6 +39,20 @@ turn take a b words more c e h = rw e h
 data_goes : (now : Section) (s u t : Said) (words : List (List ℕ)) (ls : List DataLine) → s.section ≡ now → data_line now s words ≡ Ok u → ((u.section ≡ now) → Goes u ls t) → Goes s (record { section = now; words = words } ∷ ls) t
 data_goes Start s u t words ls n e g = absurd cc
 data_goes Name s u t words ls n e g = absurd cc
+data_goes Objsense s u t words ls n e g =
+    let a = went (sense_line s.sense words) _ u e in
+    let is : record s { sense = a.x } ≡ u = cc in
+    let h : Goes (record s { sense = a.x }) ls t = rw is (g (ap (λ (x : Said). x.section) (sym is) ∙ n)) in
+    let r = ap rank n in
+    record {
+      rows = h.rows;
+      columns = h.columns;
+      rhs = h.rhs;
+      ranges = h.ranges;
+      bounds = h.bounds;
+      kept_rows = λ l. absurd (omega (arith, l, r));
+      kept_columns = λ l. absurd (omega (arith, l, r));
+    }
 data_goes Rows s u t words ls n e g =
     let a = went (rows_line s.rows words) _ u e in
     let is : record s { rows = a.x } ≡ u = cc in
@@ -114,39 +129,56 @@ data_goes Bounds s u t words ls n e g =
 data_goes End s u t words ls n e g = absurd cc
 
 -- a section line opens a later section
-section_goes : (s u t : Said) (word : List ℕ) (ls : List DataLine) → section_line s word ≡ Ok u → Goes u ls t → Goes s ls t × (u.section ≡ named_or s.section (section_of word))
-section_goes s u t word ls e g =
-    let a = went (there_or what.Section (section_of word)) _ u e in
+pub record Opens (s u : Said) (name : List ℕ) (words : List (List ℕ)) : Type 0 where
+  pub next : Section
+  pub sense : Option Sense
+  pub named : section_of name ≡ Some next
+  pub later : rank s.section < rank next
+  pub given : lacks_word s.section s.sense ≡ false
+  pub opened : opened_sense next s.sense words ≡ Ok sense
+  pub is : record s { section = next; sense = sense } ≡ u
+
+pub opens : (s u : Said) (name : List ℕ) (words : List (List ℕ)) → section_line s name words ≡ Ok u → Opens s u name words
+opens s u name words e =
+    let a = went (there_or what.Section (section_of name)) _ u e in
     let b = went (refuse (not (may_follow s.section a.x)) what.Section) _ u a.then in
-    let found = there what.Section (section_of word) a.x a.is in
-    let is : record s { section = a.x } ≡ u = cc in
-    let h : Goes (record s { section = a.x }) ls t = rw is g in
+    let g = went (refuse (lacks_word s.section s.sense) what.Words) _ u b.then in
+    let o = went (opened_sense a.x s.sense words) _ u g.then in
     let follows = not-false (may_follow s.section a.x) (passed (not (may_follow s.section a.x)) what.Section b.x b.is) in
-    let later : rank s.section < rank a.x = let c = and_parts (nat_lt (rank s.section) (rank a.x)) _ follows in let d = c.0 in grind (arith, nat_tests) in (
-      record {
-        rows = h.rows;
-        columns = h.columns;
-        rhs = h.rhs;
-        ranges = h.ranges;
-        bounds = h.bounds;
-        kept_rows = λ l. h.kept_rows (omega (arith, l, later));
-        kept_columns = λ l. h.kept_columns (omega (arith, l, later));
-      },
-      ap (λ (x : Said). x.section) (sym is) ∙ ap (named_or s.section) (sym found),
-    )
+    record {
+      next = a.x;
+      sense = o.x;
+      named = there what.Section (section_of name) a.x a.is;
+      later = let c = and_parts (nat_lt (rank s.section) (rank a.x)) _ follows in let d = c.0 in grind (arith, nat_tests);
+      given = passed (lacks_word s.section s.sense) what.Words g.x g.is;
+      opened = o.is;
+      is = cc;
+    }
+
+pub behind : (s u : Said) (name : List ℕ) (words : List (List ℕ)) → Opens s u name words → u.section ≡ named_or s.section (section_of name)
+behind s u name words o = ap (λ (x : Said). x.section) (sym o.is) ∙ ap (named_or s.section) (sym o.named)
+
+section_goes : (s u t : Said) (name : List ℕ) (words : List (List ℕ)) (ls : List DataLine) → Opens s u name words → Goes u ls t → Goes s ls t
+section_goes s u t name words ls o g =
+    let is = o.is in
+    let later = o.later in
+    let h : Goes (record s { section = o.next; sense = o.sense }) ls t = rw is g in
+    record {
+      rows = h.rows;
+      columns = h.columns;
+      rhs = h.rhs;
+      ranges = h.ranges;
+      bounds = h.bounds;
+      kept_rows = λ l. h.kept_rows (omega (arith, l, later));
+      kept_columns = λ l. h.kept_columns (omega (arith, l, later));
+    }
 
 -- a line goes on to what the lines behind it say
 spoken_goes : (s u t : Said) (d : Bool) (words : List (List ℕ)) (ls : List DataLine) → spoken s d words ≡ Ok u → (u.section ≡ section_behind s.section d words → Goes u ls t) → Goes s (data_of s.section d words ++ ls) t
 spoken_goes s u t true [] ls e g = let is : s ≡ u = cc in rw is (g (ap (λ (x : Said). x.section) (sym is)))
 spoken_goes s u t false [] ls e g = let is : s ≡ u = cc in rw is (g (ap (λ (x : Said). x.section) (sym is)))
 spoken_goes s u t true (word ∷ words) ls e g = data_goes s.section s u t (word ∷ words) ls refl e g
-spoken_goes s u t false (word ∷ words) ls e g =
-    let a = went (there_or what.Section (section_of word)) _ u e in
-    let b = went (refuse (not (may_follow s.section a.x)) what.Section) _ u a.then in
-    let found = there what.Section (section_of word) a.x a.is in
-    let is : record s { section = a.x } ≡ u = cc in
-    let behind : u.section ≡ named_or s.section (section_of word) = ap (λ (x : Said). x.section) (sym is) ∙ ap (named_or s.section) (sym found) in
-    (section_goes s u t word ls e (g behind)).0
+spoken_goes s u t false (name ∷ words) ls e g = let o = opens s u name words e in section_goes s u t name words ls o (g (behind s u name words o))
 
 line_goes : (s u t : Said) (line : List ℕ) (ls : List DataLine) → after_line s line ≡ Ok u → (u.section ≡ section_behind s.section (is_data line) (words_said line) → Goes u ls t) → Goes s (data_of s.section (is_data line) (words_said line) ++ ls) t
 unfolding after_line

@@ -9,6 +9,7 @@ use Rattle.bl_cards.specs.Reading.{Fault, after_line, is_end, said_in}
 use Rattle.bl_cards.specs.Sections.{IsReadBySections}
 use Rattle.bl_cards.specs.Named.{IsNamedByLines}
 use Rattle.bl_cards.specs.Sets.{AreGivenByLines}
+use Rattle.bl_cards.specs.Senses.{IsAskedByLines}
 
 -- ---- the first fault
 
@@ -52,12 +53,13 @@ TellsFirstLine = (bytes : List ℕ) (f : Fault) → said_in bytes ≡ Err f → 
 
 -- ---- what is said
 
--- what the lines up to the ENDATA line say, in the lines' own words: by sections, columns and numbers by name, the rest by set
+-- what the lines up to the ENDATA line say, in the lines' own words: by sections, columns and numbers by name, the rest by set, and the sense by its word
 pub record IsSaidByLines (lines : List (List ℕ)) (line : ℕ) (said : Said) : Type 0 where
   pub ends : Ends nothing_said lines line said
   pub sections : IsReadBySections lines said
   pub named : IsNamedByLines lines said
   pub given : AreGivenByLines lines said
+  pub asked : IsAskedByLines lines said
 
 -- what a file says is what its lines say, with no fault up to the ENDATA line
 abbrev pub TellsLines : Type 0

@@ -6,4 +6,5 @@ pub mod Coherence
 pub mod Sections
 pub mod Named
 pub mod Sets
+pub mod Senses
 pub mod Laws

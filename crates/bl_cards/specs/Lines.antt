@@ -1,14 +1,16 @@
 -- What each line adds to what was said, or the first rule that it breaks.
-use Rattle.std.specs.Prelude.{ℕ, ◌+◌, ◌-◌, ◌*◌, ◌^◌, Bool, true, false, not, ◌&&◌, ◌||◌, ◌==◌, nat_le, nat_lt, if◌then◌else◌, List, [], ◌∷◌, ◌++◌, length, Option, Some, None, is_none, ℤ, pos, nat_abs, Result, Ok, Err, codes}
+use Rattle.std.specs.Prelude.{ℕ, ◌+◌, ◌-◌, ◌*◌, ◌^◌, Bool, true, false, not, ◌&&◌, ◌||◌, ◌==◌, nat_le, nat_lt, if◌then◌else◌, List, [], ◌∷◌, ◌++◌, length, Option, Some, None, is_none, is_some, ℤ, pos, nat_abs, Result, Ok, Err, codes}
 use Rattle.std.specs.List.{list_any, list_all}
 use Rattle.bl_num.specs.declared.Decimal.{Decimal}
+use Rattle.bl_problem.specs.declared.problem.Sense.{Sense}
+use Rattle.bl_problem.specs.declared.problem.Sense.TheVariants.{Min, Max}
 use Rattle.bl_num.specs.declared.NumberFault.{NumberFault}
 use Rattle.bl_num.specs.declared.NumberFault.TheVariants as number
 use Rattle.bl_num.specs.Decimals.{decimal_of}
 use Rattle.bl_cards.specs.declared.kind.What.{What}
 use Rattle.bl_cards.specs.declared.kind.What.TheVariants as what
 use Rattle.bl_cards.specs.declared.kind.Section.{Section}
-use Rattle.bl_cards.specs.declared.kind.Section.TheVariants.{Start, Name, Rows, Columns, Rhs, Ranges, Bounds, End}
+use Rattle.bl_cards.specs.declared.kind.Section.TheVariants.{Start, Name, Objsense, Rows, Columns, Rhs, Ranges, Bounds, End}
 use Rattle.bl_cards.specs.declared.kind.Role.{Role}
 use Rattle.bl_cards.specs.declared.kind.Role.TheVariants.{Objective, Extra, AtMost, AtLeast, Equal}
 use Rattle.bl_cards.specs.declared.kind.Act.{Act}
@@ -33,6 +35,30 @@ number_or_fault (Err number.TooWide) = Err what.TooWide
 
 abbrev pub number_at : List ℕ → Result Decimal What
 number_at word = number_or_fault (decimal_of word)
+
+-- ---- OBJSENSE
+
+-- what a word asks for
+abbrev pub sense_of : List ℕ → Option Sense
+sense_of word =
+    if same word (codes "MAX") || same word (codes "MAXIMIZE") then Some Max
+    else if same word (codes "MIN") || same word (codes "MINIMIZE") then Some Min
+    else None
+
+-- the sense that a word names
+abbrev pub sense_word : List ℕ → Result (Option Sense) What
+sense_word word = there_or what.Words (sense_of word) >>= λ sense. Ok (Some sense)
+
+-- one word, where none came before
+abbrev pub sense_line : Option Sense → List (List ℕ) → Result (Option Sense) What
+sense_line said [] = Err what.Words
+sense_line said (word ∷ []) = sense_word word >>= λ sense. refuse (is_some said) what.Twice >>= λ once. Ok sense
+sense_line said (word ∷ more ∷ words) = Err what.Words
+
+-- without OBJSENSE the objective is minimised
+abbrev pub sense_or_min : Option Sense → Sense
+sense_or_min None = Min
+sense_or_min (Some sense) = sense
 
 -- ---- ROWS
 
@@ -276,6 +302,7 @@ bounds_line columns s (kind ∷ words) = do
 abbrev pub data_line : Section → Said → List (List ℕ) → Result Said What
 data_line Start s words = Err what.Section
 data_line Name s words = Err what.Section
+data_line Objsense s words = sense_line s.sense words >>= λ sense. Ok (record s { sense = sense })
 data_line Rows s words = rows_line s.rows words >>= λ rows. Ok (record s { rows = rows })
 data_line Columns s words = columns_line s.rows s.columns words >>= λ columns. Ok (record s { columns = columns })
 data_line Rhs s words = given_line false s.rows s.rhs words >>= λ rhs. Ok (record s { rhs = rhs })
@@ -286,6 +313,7 @@ data_line End s words = Err what.Section
 abbrev pub section_of : List ℕ → Option Section
 section_of word =
     if same word (codes "NAME") then Some Name
+    else if same word (codes "OBJSENSE") then Some Objsense
     else if same word (codes "ROWS") then Some Rows
     else if same word (codes "COLUMNS") then Some Columns
     else if same word (codes "RHS") then Some Rhs
@@ -298,16 +326,18 @@ section_of word =
 abbrev pub rank : Section → ℕ
 rank Start = 0
 rank Name = 1
-rank Rows = 2
-rank Columns = 3
-rank Rhs = 4
-rank Ranges = 5
-rank Bounds = 6
-rank End = 7
+rank Objsense = 2
+rank Rows = 3
+rank Columns = 4
+rank Rhs = 5
+rank Ranges = 6
+rank Bounds = 7
+rank End = 8
 
 abbrev pub is_required : Section → Bool
 is_required Start = true
 is_required Name = true
+is_required Objsense = false
 is_required Rows = true
 is_required Columns = true
 is_required Rhs = false
@@ -316,14 +346,26 @@ is_required Bounds = false
 is_required End = true
 
 abbrev pub sections : List Section
-sections = Name ∷ Rows ∷ Columns ∷ Rhs ∷ Ranges ∷ Bounds ∷ End ∷ []
+sections = Name ∷ Objsense ∷ Rows ∷ Columns ∷ Rhs ∷ Ranges ∷ Bounds ∷ End ∷ []
 
 -- the section comes later in the order, and no required one lies between
 abbrev pub may_follow : Section → Section → Bool
 may_follow now next = nat_lt (rank now) (rank next) && list_all (λ p. not (is_required p && nat_lt (rank now) (rank p) && nat_lt (rank p) (rank next))) sections
 
-abbrev pub section_line : Said → List ℕ → Result Said What
-section_line s word = do
-  next ← there_or what.Section (section_of word)
+-- OBJSENSE is open, and its word did not come
+abbrev pub lacks_word : Section → Option Sense → Bool
+lacks_word section sense = rank section == rank Objsense && is_none sense
+
+-- the word behind the section's name is read on an OBJSENSE line alone; all others are passed over
+abbrev pub opened_sense : Section → Option Sense → List (List ℕ) → Result (Option Sense) What
+opened_sense section said [] = Ok said
+opened_sense section said (word ∷ words) = if rank section == rank Objsense then sense_word word else Ok said
+
+-- a section's name, and the words behind it
+abbrev pub section_line : Said → List ℕ → List (List ℕ) → Result Said What
+section_line s name words = do
+  next ← there_or what.Section (section_of name)
   fits ← refuse (not (may_follow s.section next)) what.Section
-  Ok (record s { section = next })
+  given ← refuse (lacks_word s.section s.sense) what.Words
+  sense ← opened_sense next s.sense words
+  Ok (record s { section = next; sense = sense })

@@ -4,7 +4,7 @@ use Rattle.bl_text.specs.Pieces.{is_blank, lines_of, words_of}
 use Rattle.bl_cards.specs.declared.kind.What.{What}
 use Rattle.bl_cards.specs.declared.kind.What.TheVariants as what
 use Rattle.bl_cards.specs.declared.kind.Section.{Section}
-use Rattle.bl_cards.specs.declared.kind.Section.TheVariants.{Start, Name, Rows, Columns, Rhs, Ranges, Bounds, End}
+use Rattle.bl_cards.specs.declared.kind.Section.TheVariants.{Start, Name, Objsense, Rows, Columns, Rhs, Ranges, Bounds, End}
 use Rattle.bl_cards.specs.declared.reader.Whole.{Whole}
 use Rattle.bl_cards.specs.Said.{Said, nothing_said, ◌>>=◌}
 use Rattle.bl_cards.specs.Lines.{data_line, section_line}
@@ -18,7 +18,7 @@ pub record Fault : Type 0 where
 abbrev pub spoken : Said → Bool → List (List ℕ) → Result Said What
 spoken s is_data [] = Ok s
 spoken s true (word ∷ words) = data_line s.section s (word ∷ words)
-spoken s false (word ∷ words) = section_line s word
+spoken s false (name ∷ words) = section_line s name words
 
 -- what a line adds to what was said
 unfoldable pub after_line : Said → List ℕ → Result Said What
@@ -28,6 +28,7 @@ after_line s (b ∷ bytes) = if b == 42 then Ok s else spoken s (is_blank b) (wo
 abbrev pub is_end : Section → Bool
 is_end Start = false
 is_end Name = false
+is_end Objsense = false
 is_end Rows = false
 is_end Columns = false
 is_end Rhs = false

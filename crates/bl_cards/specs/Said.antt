@@ -1,6 +1,7 @@
 -- What the lines of a file have said so far: lists in file order, with nothing worked out.
 use Rattle.std.specs.Prelude.{◌≡◌, ℕ, suc, option_map, Bool, true, false, ◌==◌, List, [], ◌∷◌, Option, Some, None, Result, Ok, Err, ℤ, if◌then◌else◌}
 use Rattle.bl_num.specs.declared.Decimal.{Decimal}
+use Rattle.bl_problem.specs.declared.problem.Sense.{Sense}
 use Rattle.bl_cards.specs.declared.kind.What.{What}
 use Rattle.bl_cards.specs.declared.kind.Section.{Section}
 use Rattle.bl_cards.specs.declared.kind.Section.TheVariants as section
@@ -62,6 +63,8 @@ pub record Grid : Type 0 where
 pub record Said : Type 0 where
   -- the section that is open
   pub section : Section
+  -- what OBJSENSE asked for, once its word came
+  pub sense : Option Sense
   pub rows : List RowLine
   pub columns : Grid
   pub rhs : SetOf Given
@@ -78,6 +81,7 @@ abbrev pub nothing_said : Said
 nothing_said =
     record {
       section = section.Start;
+      sense = None;
       rows = [];
       columns = no_columns;
       rhs = no_set;

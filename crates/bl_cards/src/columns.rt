@@ -5,6 +5,7 @@ ghost use Rattle.bl_cards.specs.Lines.{at_column, add_cell, put_cell, cell, cell
 ghost use Rattle.bl_cards.specs.Views.{Follows, cell_of};
 
 use crate::fault::LineFault;
+use crate::hashing::FileHash;
 use crate::kind::{Role, What};
 use crate::names::Names;
 use crate::number::number;
@@ -56,16 +57,16 @@ fn is_marker(words: &[&[u8]]) -> bool
 }
 
 impl<'a> Columns<'a> {
-    pub(crate) fn new(alloc: Global) -> Columns<'a>
+    pub(crate) fn new(alloc: Global, hash: FileHash) -> Columns<'a>
         ensures { result ≡ no_columns }
     {
         Columns {
-            names: Names::new(alloc),
+            names: Names::new(alloc, hash),
             whole: Vec::new(alloc),
             cells: Vec::new(alloc),
             is_open: false,
             in_stretch: false,
-            here: Names::new(alloc),
+            here: Names::new(alloc, hash),
         }
     }
 

@@ -5,6 +5,7 @@ ghost use Rattle.bl_cards.specs.Lines.{has_given, add_given, given, given_two, g
 ghost use Rattle.bl_cards.specs.Views.{Follows};
 
 use crate::fault::LineFault;
+use crate::hashing::FileHash;
 use crate::kind::{Role, What};
 use crate::names::Names;
 use crate::number::number;
@@ -33,11 +34,11 @@ impl<'a> Model for Numbers<'a> {
 }
 
 impl<'a> Numbers<'a> {
-    pub fn new(alloc: Global) -> Numbers<'a>
+    pub fn new(alloc: Global, hash: FileHash) -> Numbers<'a>
         ensures { result ≡ [] }
     {
         Numbers {
-            rows: Names::new(alloc),
+            rows: Names::new(alloc, hash),
             numbers: Vec::new(alloc),
         }
     }
@@ -98,12 +99,12 @@ fn is_passed(with_objective: bool, role: Role) -> bool
 }
 
 impl<'a> RowNumbers<'a> {
-    pub(crate) fn new(alloc: Global) -> RowNumbers<'a>
+    pub(crate) fn new(alloc: Global, hash: FileHash) -> RowNumbers<'a>
         ensures { result ≡ no_set }
     {
         RowNumbers {
             set: None,
-            numbers: Numbers::new(alloc),
+            numbers: Numbers::new(alloc, hash),
         }
     }
 

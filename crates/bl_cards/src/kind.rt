@@ -5,7 +5,7 @@
 pub enum What {
     /// A section line that is unknown, repeated or out of order, or a data line where no section takes one.
     Section,
-    /// Another number of words than the section's lines have, or an unknown kind of row or bound.
+    /// Another number of words than the section's lines have, an unknown kind of row or bound, or an unknown or missing sense.
     Words,
     /// A number that is not spelled as one.
     Number,
@@ -38,6 +38,7 @@ pub enum What {
 pub enum Section {
     Start,
     Name,
+    Objsense,
     Rows,
     Columns,
     Rhs,

@@ -8,7 +8,8 @@ pub fn line_faults_are_first()
 {}
 
 /// What a file says is what its lines up to the ENDATA line say, each section by its own data lines in turn: the columns
-/// and their numbers by name, and the right sides, ranges and cards of each section's first set.
+/// and their numbers by name, the right sides, ranges and cards of each section's first set, and the sense by the one
+/// word of OBJSENSE.
 pub fn files_say_what_their_lines_say()
     ensures { TellsLines }
 {}

@@ -1,7 +1,7 @@
 //! What the lines of an MPS file say.
 //!
-//! A `Reader` takes the lines of a file in turn and keeps what they say: rows, columns and their numbers, right sides,
-//! ranges and bound cards. Which problem that means is said by the crate above.
+//! A `Reader` takes the lines of a file in turn and keeps what they say: the sense of the objective, rows, columns and
+//! their numbers, right sides, ranges and bound cards. Which problem that means is said by the crate above.
 //!
 //! `specs/Said.antt` has what was said, as lists in file order with nothing worked out, and is what contracts see of a
 //! `Reader`. `specs/Lines.antt` says what each line adds, or the first rule that it breaks, and `specs/Reading.antt`
@@ -16,6 +16,7 @@ mod bounds;
 mod columns;
 mod fault;
 mod given;
+mod hashing;
 mod kind;
 pub mod laws;
 mod names;
@@ -23,11 +24,13 @@ mod number;
 mod reader;
 mod rows;
 mod section;
+mod sense;
 
 pub use bounds::{BoundCard, Bounds};
 pub use columns::{Columns, RowCell};
 pub use fault::{LineFault, ModelFault};
 pub use given::RowNumbers;
+pub use hashing::FileHash;
 pub use kind::{Act, Role, What};
 pub use names::Names;
 pub use reader::{Reader, Whole};
@@ -46,7 +49,7 @@ mod tests {
         if text.len() > 10_000 {
             return None;
         }
-        match Reader::new(alloc).file(alloc, text) {
+        match Reader::new(alloc, FileHash::of(text)).file(alloc, text) {
             Ok(whole) => {
                 let said = &whole.said;
                 let counts = [

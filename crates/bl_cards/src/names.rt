@@ -2,6 +2,7 @@
 ghost use Rattle.std.specs.Prelude.{◌≡◌, ◌<◌, [], ◌∷◌, ◌++◌, None, length, OnOk, OnErr, IfSome, slice_index_or};
 ghost use Rattle.bl_cards.specs.Said.{place_of, Differ};
 
+use crate::hashing::FileHash;
 use indexmap::IndexSet;
 use std::alloc::{AllocError, Global};
 use std::marker::Model;
@@ -9,7 +10,7 @@ use std::marker::Model;
 /// Names of a file that differ, in order, each found by its bytes.
 #[derive(Drop)]
 pub struct Names<'a> {
-    set: IndexSet<&'a [u8]>,
+    set: IndexSet<&'a [u8], FileHash>,
 }
 
 impl<'a> Model for Names<'a> {
@@ -25,12 +26,12 @@ impl<'a> Model for Names<'a> {
 }
 
 impl<'a> Names<'a> {
-    /// No names. Takes no memory.
-    pub(crate) fn new(alloc: Global) -> Names<'a>
+    /// No names, which will be hashed so. Takes no memory.
+    pub(crate) fn new(alloc: Global, hash: FileHash) -> Names<'a>
         ensures { result ≡ [] }
     {
         Names {
-            set: IndexSet::new(alloc),
+            set: IndexSet::with_hasher(alloc, hash),
         }
     }
 

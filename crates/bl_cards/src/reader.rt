@@ -1,8 +1,9 @@
 //! The reader, which takes the lines of a file in turn.
 ghost use Rattle.std.specs.Prelude.{◌≡◌, ◌+◌, ◌<◌, ◌^◌, map, length, IfOk};
 ghost use Rattle.bl_text.specs.Pieces.{lines_of, words_of};
+ghost use Rattle.bl_cards.specs.declared.kind.Section.TheVariants.{Objsense};
 ghost use Rattle.bl_cards.specs.Said.{nothing_said};
-ghost use Rattle.bl_cards.specs.Lines.{data_line, section_line};
+ghost use Rattle.bl_cards.specs.Lines.{data_line, section_line, sense_or_min};
 ghost use Rattle.bl_cards.specs.Reading.{after_line, said_from, spoken, is_end};
 ghost use Rattle.bl_cards.specs.Coherence.{IsCoherent};
 ghost use Rattle.bl_cards.specs.Views.{Follows, Reads};
@@ -11,9 +12,12 @@ use crate::bounds::Bounds;
 use crate::columns::Columns;
 use crate::fault::{LineFault, ModelFault};
 use crate::given::RowNumbers;
+use crate::hashing::FileHash;
 use crate::kind::{Section, What};
 use crate::rows::Rows;
 use crate::section::{is_end, may_follow, section_of};
+use crate::sense::{lacks_word, opened_sense, sense_line, sense_or_min};
+use bl_problem::Sense;
 use bl_text::{is_blank, lines, words};
 use std::alloc::{AllocError, Global};
 use std::marker::Model;
@@ -22,6 +26,8 @@ use std::marker::Model;
 #[derive(Drop)]
 pub struct Reader<'a> {
     section: Section,
+    /// What OBJSENSE asked for, once its word came.
+    sense: Option<Sense>,
     rows: Rows<'a>,
     columns: Columns<'a>,
     rhs: RowNumbers<'a>,
@@ -34,7 +40,7 @@ impl<'a> Model for Reader<'a> {
 
     ghost Value = { Said };
 
-    ghost view = { λ r. record { section = r.section; rows = r.rows; columns = r.columns; rhs = r.rhs; ranges = r.ranges; bounds = r.bounds } };
+    ghost view = { λ r. record { section = r.section; sense = r.sense; rows = r.rows; columns = r.columns; rhs = r.rhs; ranges = r.ranges; bounds = r.bounds } };
 }
 
 /// What a whole file said, and the number of its ENDATA line, counted from 1.
@@ -56,19 +62,27 @@ fn all_words<'a>(alloc: Global, line: &'a [u8]) -> Result<Vec<&'a [u8]>, AllocEr
 }
 
 impl<'a> Reader<'a> {
-    /// Nothing is said. Takes no memory.
-    pub fn new(alloc: Global) -> Reader<'a>
+    /// Nothing is said; names will be hashed so. Takes no memory.
+    pub fn new(alloc: Global, hash: FileHash) -> Reader<'a>
         ensures nothing { result ≡ nothing_said }
         ensures coherent { IsCoherent result }
     {
         Reader {
             section: Section::Start,
-            rows: Rows::new(alloc),
-            columns: Columns::new(alloc),
-            rhs: RowNumbers::new(alloc),
-            ranges: RowNumbers::new(alloc),
+            sense: None,
+            rows: Rows::new(alloc, hash),
+            columns: Columns::new(alloc, hash),
+            rhs: RowNumbers::new(alloc, hash),
+            ranges: RowNumbers::new(alloc, hash),
             bounds: Bounds::new(alloc),
         }
+    }
+
+    /// What the file asks for: the least or the greatest value of its objective, and the least without OBJSENSE.
+    pub fn sense(&self) -> Sense
+        ensures { result ≡ sense_or_min self.now.sense }
+    {
+        sense_or_min(self.sense)
     }
 
     /// The rows that ROWS names.
@@ -113,12 +127,26 @@ impl<'a> Reader<'a> {
         is_end(self.section)
     }
 
+    /// Takes the words of a line of OBJSENSE.
+    fn sense_line(&mut self, words: &[&'a [u8]]) -> Result<(), LineFault>
+        ensures { Follows result (data_line Objsense self.old (map (λ w. w.now) words.now)) self.new }
+    {
+        match sense_line(self.sense, words) {
+            Ok(sense) => {
+                self.sense = sense;
+                Ok(())
+            }
+            Err(fault) => Err(fault),
+        }
+    }
+
     /// Takes the words of a data line of the section that is open.
     fn data_line(&mut self, words: &[&'a [u8]]) -> Result<(), LineFault>
         ensures { Follows result (data_line self.old.section self.old (map (λ w. w.now) words.now)) self.new }
     {
         match self.section {
             Section::Start | Section::Name | Section::End => Err(LineFault::Broken(What::Section)),
+            Section::Objsense => self.sense_line(words),
             Section::Rows => self.rows.line(words),
             Section::Columns => self.columns.line(&self.rows, words),
             Section::Rhs => self.rhs.line(false, &self.rows, words),
@@ -127,16 +155,26 @@ impl<'a> Reader<'a> {
         }
     }
 
-    /// Opens the section that a section line names.
-    fn section_line(&mut self, word: &[u8]) -> Result<(), LineFault>
-        ensures { Follows result (section_line self.old word.now) self.new }
+    /// Opens the section that a section line names, and takes the sense that an OBJSENSE line gives.
+    fn section_line(&mut self, name: &[u8], words: &[&'a [u8]]) -> Result<(), LineFault>
+        ensures { Follows result (section_line self.old name.now (map (λ w. w.now) words.now)) self.new }
     {
-        match section_of(word) {
-            Some(next) if may_follow(self.section, next) => {
+        let Some(next) = section_of(name) else {
+            return Err(LineFault::Broken(What::Section));
+        };
+        if !may_follow(self.section, next) {
+            return Err(LineFault::Broken(What::Section));
+        }
+        if lacks_word(self.section, self.sense) {
+            return Err(LineFault::Broken(What::Words));
+        }
+        match opened_sense(next, self.sense, words) {
+            Ok(sense) => {
                 self.section = next;
+                self.sense = sense;
                 Ok(())
             }
-            _ => Err(LineFault::Broken(What::Section)),
+            Err(fault) => Err(fault),
         }
     }
 
@@ -146,11 +184,11 @@ impl<'a> Reader<'a> {
     {
         match words {
             [] => Ok(()),
-            [word, ..] => {
+            [name, more @ ..] => {
                 if is_data {
                     self.data_line(words)
                 } else {
-                    self.section_line(word)
+                    self.section_line(name, more)
                 }
             }
         }

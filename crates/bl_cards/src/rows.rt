@@ -5,6 +5,7 @@ ghost use Rattle.bl_cards.specs.Lines.{role_of, role_for, rows_line, is_limited,
 ghost use Rattle.bl_cards.specs.Views.{Follows};
 
 use crate::fault::LineFault;
+use crate::hashing::FileHash;
 use crate::kind::{Role, What};
 use crate::names::Names;
 use std::alloc::{AllocError, Global};
@@ -75,11 +76,11 @@ fn limited_by(role: Role) -> usize
 }
 
 impl<'a> Rows<'a> {
-    pub(crate) fn new(alloc: Global) -> Rows<'a>
+    pub(crate) fn new(alloc: Global, hash: FileHash) -> Rows<'a>
         ensures { result ≡ [] }
     {
         Rows {
-            names: Names::new(alloc),
+            names: Names::new(alloc, hash),
             roles: Vec::new(alloc),
             limited: 0,
             had_objective: false,

@@ -11,6 +11,8 @@ pub fn section_of(word: &[u8]) -> Option<Section>
 {
     if word == b"NAME".as_slice() {
         Some(Section::Name)
+    } else if word == b"OBJSENSE".as_slice() {
+        Some(Section::Objsense)
     } else if word == b"ROWS".as_slice() {
         Some(Section::Rows)
     } else if word == b"COLUMNS".as_slice() {
@@ -35,7 +37,8 @@ pub fn may_follow(now: Section, next: Section) -> bool
     match next {
         Section::Start => false,
         Section::Name => matches!(now, Section::Start),
-        Section::Rows => matches!(now, Section::Name),
+        Section::Objsense => matches!(now, Section::Name),
+        Section::Rows => matches!(now, Section::Name | Section::Objsense),
         Section::Columns => matches!(now, Section::Rows),
         Section::Rhs => matches!(now, Section::Columns),
         Section::Ranges => matches!(now, Section::Columns | Section::Rhs),

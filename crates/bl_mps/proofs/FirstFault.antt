@@ -49,6 +49,7 @@ tells_meaning said bytes p h = by (said_in bytes) refl h
           sections = s.sections;
           named = s.named;
           given = s.given;
+          asked = s.asked;
           meaning = meant_by w.last (finished w.said) p k;
         }
 

@@ -1,9 +1,11 @@
 pub mod PerName
 pub mod Lists
 pub mod Units
+pub mod Senses
 pub mod Limits
 pub mod Programs
 pub mod Made
+pub mod Values
 pub mod FirstFault
 pub mod RowLaws
 pub mod Files

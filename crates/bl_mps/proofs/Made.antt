@@ -8,18 +8,20 @@ use Rattle.std.proofs.lemmas.List.Folds.{list_all-append}
 use Rattle.bl_problem.specs.declared.problem.Term.{Term}
 use Rattle.bl_problem.specs.declared.problem.Column.{Column}
 use Rattle.bl_problem.specs.declared.problem.Row.{Row}
+use Rattle.bl_problem.specs.declared.problem.Sense.{Sense}
 use Rattle.bl_cards.specs.declared.fault.LineFault.{LineFault}
 use Rattle.bl_cards.specs.declared.fault.LineFault.TheVariants.{Memory, Broken}
 use Rattle.bl_cards.specs.declared.kind.What.TheVariants as what
-use Rattle.bl_problem.specs.declared.problem.Sense.TheVariants.{Min}
+use Rattle.bl_problem.specs.Points.{in_sense}
 use Rattle.bl_mps.specs.declared.ends.Ends.{Ends}
 use Rattle.bl_mps.specs.declared.finish.ScaledObjective.{ScaledObjective}
 use Rattle.bl_cards.specs.Said.{RowLine, Said}
 use Rattle.bl_cards.specs.Lines.{is_limited, has_objective}
-use Rattle.bl_mps.specs.Meaning.{row_of, rows_of, column_of, columns_from, objective_of, all_ends, ends_or, binary, are_whole, are_bounded, is_within, term_within, row_within, objective_within, keeps_limits, limited, program_of, finished}
+use Rattle.bl_mps.specs.Meaning.{row_of, rows_of, column_of, columns_from, sense_for, objective_of, all_ends, ends_or, binary, are_whole, are_bounded, is_within, term_within, row_within, objective_within, keeps_limits, limited, program_of, finished}
 use Rattle.bl_cards.specs.Coherence.{IsCoherent}
 use Rattle.bl_cards.specs.Views.{Gives}
 use Rattle.bl_mps.proofs.Limits.{wide, second_far}
+use Rattle.bl_mps.proofs.Senses.{sense_within}
 use Rattle.bl_mps.proofs.Programs.{costs_within, costs_rise, costs_inside}
 
 -- ---- columns
@@ -105,7 +107,9 @@ module _ (s : Said) (h : IsCoherent s) where
   costs_are = costs_within s (objective_of s).costs s.columns.names (costs_rise s h) (costs_inside s h)
 
   pub limits_are : keeps_limits (program_of s) ≡ (objective_within (objective_of s) && list_all row_within (rows_of s))
-  limits_are = ap (λ (b : Bool). (b && is_within (10 ^ 24) (objective_of s).offset) && list_all row_within (rows_of s)) costs_are
+  limits_are =
+      ap (λ (b : Bool). (b && is_within (10 ^ 24) (in_sense (sense_for s) (objective_of s).offset)) && list_all row_within (rows_of s)) costs_are
+      ∙ ap (λ (b : Bool). (list_all term_within (objective_of s).costs && b) && list_all row_within (rows_of s)) (sense_within (sense_for s) (10 ^ 24) (objective_of s).offset)
 
   pub rows_wide : list_all row_within (rows_of s) ≡ false → keeps_limits (program_of s) ≡ false
   rows_wide e = limits_are ∙ second_false (objective_within (objective_of s)) (list_all row_within (rows_of s)) e
@@ -133,6 +137,7 @@ whole_more ends whole j e w l m t = rw (drop_more ends j e l, drop_more whole j 
 
 -- ---- the problem
 
-pub program_made : (s : Said) (o : ScaledObjective) (columns : List Column) (rows : List Row) (costs : List Term) (offset : ℤ) → objective_of s ≡ o → rows_of s ≡ rows → costs ≡ o.costs → columns ≡ columns_from s costs 0 s.columns.names → offset ≡ o.offset
-    → program_of s ≡ record { columns = columns; rows = rows; objective = o.name; scale = o.scale; offset = offset; sense = Min }
-program_made s o columns rows costs offset a b c d e = rw (d, c, e, ← b, ← a) refl
+pub program_made : (s : Said) (o : ScaledObjective) (columns : List Column) (rows : List Row) (costs : List Term) (offset : ℤ) (sense : Sense) → objective_of s ≡ o → rows_of s ≡ rows → costs ≡ o.costs → columns ≡ columns_from s costs 0 s.columns.names
+    → offset ≡ in_sense (sense_for s) o.offset → sense ≡ sense_for s
+    → program_of s ≡ record { columns = columns; rows = rows; objective = o.name; scale = o.scale; offset = offset; sense = sense }
+program_made s o columns rows costs offset sense a b c d e f = rw (d, c, e, f, ← b, ← a) refl

@@ -18,6 +18,8 @@ use Rattle.bl_problem.specs.declared.problem.Row.{Row}
 use Rattle.bl_problem.specs.Sums.{IsWithin}
 use Rattle.bl_problem.specs.Rows.{AreTerms, IsTerm, coefficient_of}
 use Rattle.bl_problem.specs.Program.{IsName, IsRowName, IsColumn, IsRow, HasTen, IsProgram}
+use Rattle.bl_problem.specs.declared.problem.Sense.{Sense}
+use Rattle.bl_problem.specs.Points.{in_sense}
 use Rattle.bl_mps.specs.declared.entries.Entry.{Entry}
 use Rattle.bl_mps.specs.declared.ends.Ends.{Ends}
 use Rattle.bl_cards.specs.declared.kind.Act.{Act}
@@ -25,11 +27,12 @@ use Rattle.bl_cards.specs.declared.kind.Act.TheVariants as act
 use Rattle.bl_cards.specs.declared.kind.Role.TheVariants.{Extra}
 use Rattle.bl_cards.specs.Said.{same, place_of, Differ, RowLine, Cell, Given, Card, SetOf, Said}
 use Rattle.bl_cards.specs.Lines.{is_objective, is_limited, is_extra, has_objective, count_limited, given_for, objective_in}
-use Rattle.bl_mps.specs.Meaning.{is_zero, cells_of, entry_of, entries_of, term_of, terms_of, or_zero, said_of, places_of, range_in, row_of, rows_of, objective_said, objective_of, lowered, set_ends, acted, unset, carded, ends_or, binary, cards_of, end_or_zero, column_of, columns_from, program_of, is_within, term_within, end_within, row_within, keeps_limits, IsRowRead}
+use Rattle.bl_mps.specs.Meaning.{is_zero, cells_of, entry_of, entries_of, term_of, terms_of, or_zero, said_of, places_of, range_in, row_of, rows_of, sense_for, objective_said, objective_of, lowered, set_ends, acted, unset, carded, ends_or, binary, cards_of, end_or_zero, column_of, columns_from, program_of, is_within, term_within, end_within, row_within, keeps_limits, IsRowRead}
 use Rattle.bl_cards.specs.Coherence.{IsRead, IsSmall, IsCell, IsBefore, IsCoherent, IsGiven, IsCard}
 use Rattle.bl_mps.specs.Views.{row_said}
 use Rattle.bl_cards.proofs.Differing.{same_is, same_self}
 use Rattle.bl_mps.proofs.Units.{Reached, places_few, places_reached, units_nonzero, units_last, ten_negated}
+use Rattle.bl_mps.proofs.Senses.{sense_within, sense_small, sense_ten}
 use Rattle.bl_mps.proofs.Limits.{all_true, one_fails, within_is, ends_are}
 
 -- ---- terms
@@ -147,14 +150,14 @@ carded_small (c ∷ cards) h = folded (c ∷ cards) unset h (record { low_is = z
 column_is : (s : Said) (costs : List Term) (m j : ℕ) (name : List ℕ) → All IsCard s.bounds.given → All (IsTerm m) costs → IsName name → IsColumn (column_of s costs j name)
 column_is s costs m j name h t n =
     let e = carded_small (cards_of s.bounds.given name) (All-filter (λ (c : Card). same name c.column) IsCard s.bounds.given h) in
-    record { name = n; low = e.low_is; high = e.high_is; cost = small_in m j costs t }
+    record { name = n; low = e.low_is; high = e.high_is; cost = sense_small (sense_for s) (10 ^ 15) (coefficient_of costs j) (small_in m j costs t) }
 
 columns_are : (s : Said) (costs : List Term) (m j : ℕ) (names : List (List ℕ)) → All IsCard s.bounds.given → All (IsTerm m) costs → All IsName names → All IsColumn (columns_from s costs j names)
 columns_are s costs m j [] h t n = λ k d l. absurd (omega arith)
 columns_are s costs m j (name ∷ names) h t n =
     All-cons IsColumn (column_of s costs j name) (columns_from s costs (suc j) names) (column_is s costs m j name h t (n 0 name (omega arith))) (columns_are s costs m (suc j) names h t (λ k d l. n (suc k) d (omega arith)))
 
-count_columns : (s : Said) (costs : List Term) (j : ℕ) (names : List (List ℕ)) → length (columns_from s costs j names) ≡ length names
+pub count_columns : (s : Said) (costs : List Term) (j : ℕ) (names : List (List ℕ)) → length (columns_from s costs j names) ≡ length names
 count_columns s costs j [] = refl
 count_columns s costs j (name ∷ names) = ap suc (count_columns s costs (suc j) names)
 
@@ -190,15 +193,15 @@ found (t ∷ ts) (suc k) d r l =
     let e : (t.column == (get_or ts k d).column) ≡ false = grind (arith, nat_tests) in
     rw e (found ts k d (λ i j x m n. r (suc i) (suc j) x (omega (arith, m)) (omega (arith, n))) (omega arith))
 
-cost_at : (s : Said) (costs : List Term) (i : ℕ) (names : List (List ℕ)) (j : ℕ) (d : Column) → j < length names → (get_or (columns_from s costs i names) j d).cost ≡ coefficient_of costs (i + j)
+pub cost_at : (s : Said) (costs : List Term) (i : ℕ) (names : List (List ℕ)) (j : ℕ) (d : Column) → j < length names → (get_or (columns_from s costs i names) j d).cost ≡ in_sense (sense_for s) (coefficient_of costs (i + j))
 cost_at s costs i [] j d l = absurd (omega arith)
-cost_at s costs i (n ∷ names) zero d l = ap (coefficient_of costs) (omega arith)
-cost_at s costs i (n ∷ names) (suc j) d l = cost_at s costs (suc i) names j d (omega arith) ∙ ap (coefficient_of costs) (omega arith)
+cost_at s costs i (n ∷ names) zero d l = ap (λ (k : ℕ). in_sense (sense_for s) (coefficient_of costs k)) (omega arith)
+cost_at s costs i (n ∷ names) (suc j) d l = cost_at s costs (suc i) names j d (omega arith) ∙ ap (λ (k : ℕ). in_sense (sense_for s) (coefficient_of costs k)) (omega arith)
 
 abbrev cost_within : Column → Bool
 cost_within c = is_within (10 ^ 15) c.cost
 
-coefficient_within : (ts : List Term) (j : ℕ) → list_all term_within ts ≡ true → is_within (10 ^ 15) (coefficient_of ts j) ≡ true
+pub coefficient_within : (ts : List Term) (j : ℕ) → list_all term_within ts ≡ true → is_within (10 ^ 15) (coefficient_of ts j) ≡ true
 coefficient_within [] j e = refl
 coefficient_within (t ∷ ts) j e =
     let b = and_parts (term_within t) (list_all term_within ts) e in
@@ -210,9 +213,9 @@ coefficient_within (t ∷ ts) j e =
 
 within_all : (s : Said) (costs : List Term) (i : ℕ) (names : List (List ℕ)) → list_all term_within costs ≡ true → list_all cost_within (columns_from s costs i names) ≡ true
 within_all s costs i [] e = refl
-within_all s costs i (n ∷ names) e = rw (coefficient_within costs i e, within_all s costs (suc i) names e) refl
+within_all s costs i (n ∷ names) e = rw (sense_within (sense_for s) (10 ^ 15) (coefficient_of costs i), coefficient_within costs i e, within_all s costs (suc i) names e) refl
 
-no_column : Column
+pub no_column : Column
 no_column = record { name = []; low = pos 0; high = pos 0; cost = pos 0 }
 
 abbrev no_term : Term
@@ -229,8 +232,9 @@ costs_within s costs names r h = by (list_all term_within costs) refl
         let t = get_or costs f.place no_term in
         let l : t.column < length names = h f.place no_term f.within in
         let wide = count_columns s costs 0 names in
-        let is : (get_or (columns_from s costs 0 names) t.column no_column).cost ≡ t.coefficient = cost_at s costs 0 names t.column no_column l ∙ ap (coefficient_of costs) (omega arith) ∙ found costs f.place no_term r f.within in
-        list_all_at cost_within (columns_from s costs 0 names) t.column no_column (omega (arith, l, wide)) (ap (is_within (10 ^ 15)) is ∙ f.is no_term)
+        let is : (get_or (columns_from s costs 0 names) t.column no_column).cost ≡ in_sense (sense_for s) t.coefficient =
+        cost_at s costs 0 names t.column no_column l ∙ ap (in_sense (sense_for s)) (ap (coefficient_of costs) (omega arith) ∙ found costs f.place no_term r f.within) in
+        list_all_at cost_within (columns_from s costs 0 names) t.column no_column (omega (arith, l, wide)) (ap (is_within (10 ^ 15)) is ∙ sense_within (sense_for s) (10 ^ 15) t.coefficient ∙ f.is no_term)
 
 -- ---- rows
 
@@ -342,6 +346,9 @@ module _ (s : Said) (h : IsCoherent s) where
   abbrev costs : List Term
   costs = (objective_of s).costs
 
+  abbrev sense : Sense
+  sense = sense_for s
+
   abbrev spread : ℕ
   spread = places_of (objective_said s)
 
@@ -351,8 +358,8 @@ module _ (s : Said) (h : IsCoherent s) where
   pub costs_inside : All (λ (t : Term). t.column < length s.columns.names) costs
   costs_inside = inside_are (length s.columns.names) s.columns.cells (objective_in s.rows) h.grid.each h.grid.rising spread
 
-  least_right : (objective_said s).right.places ≡ spread → spread ≢ 0 → HasTen (objective_of s).offset → ⊥
-  least_right e n t = units_last (objective_said s).right spread (objective_read s h).right.canonical e n (ten_negated (in_units (objective_said s).right spread) t)
+  least_right : (objective_said s).right.places ≡ spread → spread ≢ 0 → HasTen (in_sense sense (objective_of s).offset) → ⊥
+  least_right e n t = units_last (objective_said s).right spread (objective_read s h).right.canonical e n (ten_negated (in_units (objective_said s).right spread) (sense_ten sense (objective_of s).offset t))
 
   least_entry : Reached (objective_said s).entries spread → spread ≢ 0 → All (λ (c : Column). HasTen c.cost) (columns_from s costs 0 s.columns.names) → ⊥
   least_entry r n t =
@@ -367,18 +374,18 @@ module _ (s : Said) (h : IsCoherent s) where
       let many = count_columns s costs 0 s.columns.names in
       let c = cost_at s costs 0 s.columns.names (get_or costs r.place no_term).column no_column inside in
       let ten = t (get_or costs r.place no_term).column no_column (omega (arith, inside, many)) in
-      let is : (get_or (columns_from s costs 0 s.columns.names) (get_or costs r.place no_term).column no_column).cost ≡ in_units e.number spread =
-      c ∙ ap (coefficient_of costs) (omega arith) ∙ f ∙ ap (λ (x : Term). x.coefficient) u in
-      units_last e.number spread ((objective_read s h).entries r.place d r.within).canonical (r.is d) n (subst HasTen is ten)
+      let is : (get_or (columns_from s costs 0 s.columns.names) (get_or costs r.place no_term).column no_column).cost ≡ in_sense sense (in_units e.number spread) =
+      c ∙ ap (in_sense sense) (ap (coefficient_of costs) (omega arith) ∙ f ∙ ap (λ (x : Term). x.coefficient) u) in
+      units_last e.number spread ((objective_read s h).entries r.place d r.within).canonical (r.is d) n (sense_ten sense (in_units e.number spread) (subst HasTen is ten))
 
-  least : spread ≢ 0 → All (λ (c : Column). HasTen c.cost) (columns_from s costs 0 s.columns.names) → HasTen (objective_of s).offset → ⊥
+  least : spread ≢ 0 → All (λ (c : Column). HasTen c.cost) (columns_from s costs 0 s.columns.names) → HasTen (in_sense sense (objective_of s).offset) → ⊥
   least n a b = ⊎_elim (λ e. least_right e n b) (⊎_elim (λ e. n (sym e)) (λ r. least_entry r n a)) (places_reached (objective_said s) n)
 
   -- what a file says is a problem, where it has an objective and keeps the limits
   pub program_is : has_objective s.rows ≡ true → keeps_limits (program_of s) ≡ true → IsProgram (program_of s)
   program_is some keeps =
-      let parts = and_parts (list_all cost_within (columns_from s costs 0 s.columns.names) && is_within (10 ^ 24) (objective_of s).offset) (list_all row_within (rows_of s)) keeps in
-      let first = and_parts (list_all cost_within (columns_from s costs 0 s.columns.names)) (is_within (10 ^ 24) (objective_of s).offset) parts.0 in
+      let parts = and_parts (list_all cost_within (columns_from s costs 0 s.columns.names) && is_within (10 ^ 24) (in_sense sense (objective_of s).offset)) (list_all row_within (rows_of s)) keeps in
+      let first = and_parts (list_all cost_within (columns_from s costs 0 s.columns.names)) (is_within (10 ^ 24) (in_sense sense (objective_of s).offset)) parts.0 in
       let near = sym (costs_within s costs s.columns.names costs_rise costs_inside) ∙ first.0 in
       let terms = terms_are (length s.columns.names) s.columns.cells (objective_in s.rows) h.grid.each h.grid.rising spread near in
       let wide = count_columns s costs 0 s.columns.names in
@@ -399,7 +406,7 @@ module _ (s : Said) (h : IsCoherent s) where
         row_names = rows_differ s lines (AllPairs-filter (λ (r t : RowLine). r.name ≢ t.name) limited_line s.rows differ);
         objective = objective_by IsRowName s.rows some h.lines.names;
         no_row = All-map (λ (r : Row). r.name ≢ objective_in s.rows) (row_of s) lines (no_objective s.rows differ some);
-        offset = within_is (10 ^ 24) (objective_of s).offset first.1;
+        offset = within_is (10 ^ 24) (in_sense sense (objective_of s).offset) first.1;
         scale = places_few (objective_said s) (objective_read s h);
         least_scale = least;
       }

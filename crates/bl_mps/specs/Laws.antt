@@ -1,8 +1,13 @@
 -- What the reading comes to, in other words.
-use Rattle.std.specs.Prelude.{◌≡◌, ◌≢◌, ◌⊎◌, ◌↔◌, ℕ, ◌^◌, ◌≤◌, true, List, All, Some, Ok, Err, ℤ, pos, ◌+ℤ◌, ◌*ℤ◌, ◌≤ℤ◌, nat_abs}
+use Rattle.std.specs.Prelude.{◌≡◌, ◌≢◌, ◌⊎◌, ◌↔◌, ℕ, ◌^◌, ◌≤◌, true, length, List, All, Some, Ok, Err, ℤ, pos, ◌+ℤ◌, ◌*ℤ◌, ◌≤ℤ◌, nat_abs}
 use Rattle.bl_num.specs.declared.Decimal.{Decimal}
 use Rattle.bl_text.specs.Pieces.{lines_of}
+use Rattle.bl_num.specs.Exact.{at, sum_below}
+use Rattle.bl_problem.specs.declared.problem.Sense.{Sense}
+use Rattle.bl_problem.specs.declared.problem.Sense.TheVariants.{Min, Max}
 use Rattle.bl_problem.specs.Program.{Program}
+use Rattle.bl_problem.specs.Points.{value_of, shown_of}
+use Rattle.bl_problem.specs.Rows.{coefficient_of}
 use Rattle.bl_cards.specs.declared.kind.What.{What}
 use Rattle.bl_cards.specs.declared.kind.Role.{Role}
 use Rattle.bl_cards.specs.declared.kind.Role.TheVariants.{Objective, Extra, AtMost, AtLeast, Equal}
@@ -12,8 +17,9 @@ use Rattle.bl_cards.specs.Reading.{Fault}
 use Rattle.bl_cards.specs.Sections.{IsReadBySections}
 use Rattle.bl_cards.specs.Named.{IsNamedByLines}
 use Rattle.bl_cards.specs.Sets.{AreGivenByLines}
+use Rattle.bl_cards.specs.Senses.{IsAskedByLines}
 use Rattle.bl_cards.specs.Laws.{LineBreaks, EndIsMissing, Ends}
-use Rattle.bl_mps.specs.Meaning.{RowSaid, IsRowRead, or_zero, places_of, low_end, high_end, finished}
+use Rattle.bl_mps.specs.Meaning.{RowSaid, IsRowRead, or_zero, places_of, low_end, high_end, sense_for, objective_of, program_of, finished}
 use Rattle.bl_mps.specs.Reading.{read_of}
 
 -- ---- the first fault
@@ -32,6 +38,7 @@ pub record Means (start : Said) (lines : List (List ℕ)) (p : Program) : Type 0
   pub sections : IsReadBySections lines said
   pub named : IsNamedByLines lines said
   pub given : AreGivenByLines lines said
+  pub asked : IsAskedByLines lines said
   pub meaning : finished said ≡ Ok p
 
 -- a fault that is told is the first
@@ -86,3 +93,22 @@ pub record AreWholeIn (n : ℕ) (r : RowSaid) : Type 0 where
 -- the powers of ten that make a row whole are those from its scale on
 abbrev pub ScaleIsLeast : Type 0
 ScaleIsLeast = (r : RowSaid) (n : ℕ) → IsRowRead r → (AreWholeIn n r ↔ (places_of r ≤ n))
+
+-- ---- values
+
+-- the file's objective at a point: its constant, and the sum of its numbers times the entries
+abbrev pub file_value : Said → List ℤ → ℤ
+file_value s x = (objective_of s).offset +ℤ sum_below (length s.columns.names) (λ j. coefficient_of (objective_of s).costs j *ℤ at x j)
+
+-- a point's value is shown as the file's objective has it
+abbrev pub ShowsFileValues : Type 0
+ShowsFileValues = (s : Said) (x : List ℤ) → shown_of (program_of s) (value_of (program_of s) x) ≡ file_value s x
+
+-- at least as good as another, in the sense of the file
+abbrev pub IsAsGood : Sense → ℤ → ℤ → Type 0
+IsAsGood Min v w = v ≤ℤ w
+IsAsGood Max v w = w ≤ℤ v
+
+-- less value is what the file asks for
+abbrev pub LessIsBetter : Type 0
+LessIsBetter = (s : Said) (x y : List ℤ) → (value_of (program_of s) x ≤ℤ value_of (program_of s) y) ↔ IsAsGood (sense_for s) (file_value s x) (file_value s y)

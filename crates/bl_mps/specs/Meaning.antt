@@ -6,8 +6,9 @@ use Rattle.bl_num.specs.Decimals.{in_units}
 use Rattle.bl_problem.specs.declared.problem.Term.{Term}
 use Rattle.bl_problem.specs.declared.problem.Column.{Column}
 use Rattle.bl_problem.specs.declared.problem.Row.{Row}
-use Rattle.bl_problem.specs.declared.problem.Sense.TheVariants.{Min}
+use Rattle.bl_problem.specs.declared.problem.Sense.{Sense}
 use Rattle.bl_problem.specs.Program.{Program}
+use Rattle.bl_problem.specs.Points.{in_sense}
 use Rattle.bl_problem.specs.Rows.{coefficient_of}
 use Rattle.bl_cards.specs.declared.kind.What.{What}
 use Rattle.bl_cards.specs.declared.kind.What.TheVariants as what
@@ -20,7 +21,7 @@ use Rattle.bl_mps.specs.declared.finish.ScaledObjective.{ScaledObjective}
 use Rattle.bl_cards.specs.declared.kind.Act.{Act}
 use Rattle.bl_cards.specs.declared.kind.Act.TheVariants as act
 use Rattle.bl_cards.specs.Said.{same, RowLine, Cell, Card, Said, ◌>>=◌, refuse}
-use Rattle.bl_cards.specs.Lines.{nothing_given, is_limited, has_objective, objective_in, given_for}
+use Rattle.bl_cards.specs.Lines.{nothing_given, is_limited, has_objective, objective_in, given_for, sense_or_min}
 use Rattle.bl_cards.specs.Coherence.{IsRead}
 
 -- ---- rows
@@ -120,6 +121,10 @@ rows_of s = map (row_of s) (filter (λ line. is_limited line.role) s.rows)
 
 -- ---- the objective
 
+-- what the file asks for: the least or the greatest value
+abbrev pub sense_for : Said → Sense
+sense_for s = sense_or_min s.sense
+
 -- its costs, and the negative of its constant
 abbrev pub objective_said : Said → RowSaid
 objective_said s = record (said_of s (objective_in s.rows)) { range = None }
@@ -133,6 +138,7 @@ objective_in_units name r =
       offset = neg_ℤ (in_units r.right (places_of r));
     }
 
+-- as the file says it: its costs, and its constant
 abbrev pub objective_of : Said → ScaledObjective
 objective_of s = objective_in_units (objective_in s.rows) (objective_said s)
 
@@ -196,9 +202,10 @@ abbrev pub end_or_zero : Option ℤ → ℤ
 end_or_zero None = pos 0
 end_or_zero (Some n) = n
 
+-- the cost is the objective's in the problem's sense
 abbrev pub column_of : Said → List Term → ℕ → List ℕ → Column
 column_of s costs j name =
-    record { name = name; low = end_or_zero (ends_for s name).low; high = end_or_zero (ends_for s name).high; cost = coefficient_of costs j }
+    record { name = name; low = end_or_zero (ends_for s name).low; high = end_or_zero (ends_for s name).high; cost = in_sense (sense_for s) (coefficient_of costs j) }
 
 -- the columns from place j on
 abbrev pub columns_from : Said → List Term → ℕ → List (List ℕ) → List Column
@@ -221,6 +228,7 @@ are_bounded ends = list_all (λ e. has_ends (ends_or binary e)) ends
 
 -- ---- the problem
 
+-- where the greatest value is asked for, costs and offset are the negatives of the objective's
 abbrev pub program_of : Said → Program
 program_of s =
     record {
@@ -228,8 +236,8 @@ program_of s =
       rows = rows_of s;
       objective = (objective_of s).name;
       scale = (objective_of s).scale;
-      offset = (objective_of s).offset;
-      sense = Min;
+      offset = in_sense (sense_for s) (objective_of s).offset;
+      sense = sense_for s;
     }
 
 abbrev pub is_within : ℕ → ℤ → Bool

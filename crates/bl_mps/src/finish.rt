@@ -1,16 +1,17 @@
 //! The problem that a file said.
-ghost use Rattle.std.specs.Prelude.{◌≡◌, ◌≢◌, ◌≤◌, ◌<◌, All, [], length, map, List, slice_index_or, true, IfOk, None, Ok, ◌||◌};
+ghost use Rattle.std.specs.Prelude.{◌≡◌, ◌≢◌, ◌≤◌, ◌<◌, ◌^◌, All, nat_abs, [], length, map, List, slice_index_or, true, IfOk, None, Ok, ◌||◌};
 ghost use Rattle.std.specs.List.{list_all};
 ghost use Rattle.bl_num.specs.Exact.{at};
 ghost use Rattle.bl_cards.specs.Said.{RowLine};
 ghost use Rattle.bl_cards.specs.Lines.{is_limited, has_objective, objective_in};
-ghost use Rattle.bl_mps.specs.Meaning.{finished, limited, keeps_limits, program_of, has_ends, ends_or, binary, ends_set, end_or_zero, column_of, columns_from, entries_of, row_in, row_of, row_within, rows_of, places_of, objective_of, objective_in_units, objective_within, all_ends, are_whole, are_bounded, IsRowRead};
+ghost use Rattle.bl_mps.specs.Meaning.{finished, limited, keeps_limits, program_of, has_ends, ends_or, binary, ends_set, end_or_zero, column_of, columns_from, entries_of, row_in, row_of, row_within, rows_of, places_of, objective_of, objective_in_units, term_within, objective_within, all_ends, are_whole, are_bounded, IsRowRead};
 ghost use Rattle.bl_cards.specs.Coherence.{IsCoherent, AreRows};
 ghost use Rattle.bl_cards.specs.Views.{Gives};
 ghost use Rattle.bl_mps.specs.Views.{row_said};
 ghost use Rattle.bl_problem.specs.declared.problem.Term.{Term};
 ghost use Rattle.bl_problem.specs.Program.{IsName, IsRowName};
 ghost use Rattle.bl_problem.specs.Rows.{coefficient_of};
+ghost use Rattle.bl_problem.specs.Points.{in_sense};
 
 use crate::ends::{Ends, column_ends, or_binary};
 use crate::entries::{Entry, dense, row_entries};
@@ -108,7 +109,29 @@ fn make_rows(
     Ok(rows)
 }
 
-/// The column at a place, from its ends and its cost.
+/// A cost in the problem's sense.
+fn cost_in(sense: Sense, cost: i64) -> i64
+    requires { nat_abs cost ≤ 10 ^ 15 }
+    ensures { result ≡ in_sense sense cost }
+{
+    match sense {
+        Sense::Min => cost,
+        Sense::Max => -cost,
+    }
+}
+
+/// A constant in the problem's sense.
+fn offset_in(sense: Sense, offset: i128) -> i128
+    requires { nat_abs offset ≤ 10 ^ 24 }
+    ensures { result ≡ in_sense sense offset }
+{
+    match sense {
+        Sense::Min => offset,
+        Sense::Max => -offset,
+    }
+}
+
+/// The column at a place, from its ends and its number in the objective.
 fn column_at(
     alloc: Global,
     reader: &Reader<'_>,
@@ -119,6 +142,7 @@ fn column_at(
     requires place { place < length reader.now.columns.names }
     requires names { All IsName reader.now.columns.names }
     requires ends { ends ≡ ends_set reader.now.bounds.given (slice_index_or reader.now.columns.names place []) }
+    requires cost { nat_abs cost ≤ 10 ^ 15 }
     ensures { IfOk result (λ column. (costs : List Term) → cost ≡ coefficient_of costs place
         → column ≡ column_of reader.now costs place (slice_index_or reader.now.columns.names place [])) }
 {
@@ -127,7 +151,7 @@ fn column_at(
         name: make_name(alloc, reader.columns().names().name(place))?,
         low: ends.low.unwrap_or(0),
         high: ends.high.unwrap_or(0),
-        cost,
+        cost: cost_in(reader.sense(), cost),
     })
 }
 
@@ -140,6 +164,7 @@ fn make_columns(
 ) -> Result<Vec<Column>, AllocError>
     requires names { All IsName reader.now.columns.names }
     requires ends { ends.now ≡ all_ends reader.now }
+    requires within { list_all term_within objective.now ≡ true }
     ensures { IfOk result (λ columns. columns.items ≡ columns_from reader.now objective.now 0 reader.now.columns.names) }
 {
     let count = reader.columns().names().len();
@@ -151,7 +176,7 @@ fn make_columns(
     Ok(columns)
 }
 
-/// The objective in units of 10^-scale.
+/// The objective as the file says it, in units of 10^-scale.
 #[derive(Drop)]
 pub struct ScaledObjective {
     pub name: Name,
@@ -278,8 +303,8 @@ fn build(
                 rows.into_vec(),
                 objective.name,
                 objective.scale,
-                objective.offset,
-                Sense::Min,
+                offset_in(reader.sense(), objective.offset),
+                reader.sense(),
             ))
         }
         Err(fault) => Err(fault),

@@ -1,5 +1,5 @@
 //! What the reading comes to, in other words.
-ghost use Rattle.bl_mps.specs.Laws.{IsOne, RangesWiden, ScaleIsLeast, TellsFirstFault, TellsMeaning};
+ghost use Rattle.bl_mps.specs.Laws.{IsOne, LessIsBetter, RangesWiden, ScaleIsLeast, ShowsFileValues, TellsFirstFault, TellsMeaning};
 
 use bl_cards::laws::{files_say_what_their_lines_say, line_faults_are_first};
 
@@ -34,4 +34,11 @@ pub fn ranges_widen_rows()
 /// The scale of a row, and of the objective, is the least power of ten that makes its numbers whole.
 pub fn scales_are_least()
     ensures { ScaleIsLeast }
+{}
+
+/// A point's value is shown as the file's objective has it, and a point of less value is one that is better in the
+/// sense of the file: where it asks for the greatest value, one with more.
+pub fn values_are_those_of_the_file()
+    ensures shown { ShowsFileValues }
+    ensures order { LessIsBetter }
 {}

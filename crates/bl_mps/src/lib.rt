@@ -20,7 +20,7 @@ pub mod laws;
 mod scale;
 
 pub use bl_cards::{ModelFault, What};
-use bl_cards::{LineFault, Reader};
+use bl_cards::{FileHash, LineFault, Reader};
 use bl_problem::Problem;
 use finish::finish;
 use std::alloc::Global;
@@ -32,7 +32,7 @@ pub fn read(alloc: Global, bytes: &[u8]) -> Result<Problem, ModelFault>
     requires { length bytes.now + 1 < 2 ^ 32 }
     ensures { Reads result (read_of bytes.now) }
 {
-    match Reader::new(alloc).file(alloc, bytes) {
+    match Reader::new(alloc, FileHash::of(bytes)).file(alloc, bytes) {
         Ok(whole) => match finish(alloc, &whole.said) {
             Ok(problem) => Ok(problem),
             Err(LineFault::Memory) => Err(ModelFault::Memory),
