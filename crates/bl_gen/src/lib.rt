@@ -1,0 +1,7 @@
+//! Formats: problems that are made from a number.
+#![tactic(auto)]
+
+mod draws;
+mod generator;
+
+pub use generator::make;

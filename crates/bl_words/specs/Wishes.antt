@@ -1,0 +1,70 @@
+-- What a list of words asks for.
+use Rattle.std.specs.Prelude.{◌≡◌, ◌≤◌, ◌<◌, ◌^◌, ℕ, pos, Bool, true, false, List, codes, Option, Some, None, IfSome, if◌then◌else◌}
+use Rattle.std.specs.Str.{bytes_eq}
+use Rattle.bl_pool.specs.declared.key.Order.{Order}
+use Rattle.bl_pool.specs.declared.key.Order.TheVariants.{Best, Depth}
+use Rattle.bl_words.specs.Words.{Spell, Text, Use, number_in, number_or, options, value_of}
+use Rattle.bl_words.specs.declared.wish.Wish.{Wish}
+use Rattle.bl_words.specs.declared.wish.GenWish.{GenWish}
+
+abbrev pub order_of : Option Text → Option Order
+order_of None = Some Best
+order_of (Some text) = if bytes_eq text (codes "best") then Some Best else if bytes_eq text (codes "depth") then Some Depth else None
+
+-- whether the value asks to split in the middle
+abbrev pub half_of : Option Text → Option Bool
+half_of None = Some false
+half_of (Some text) = if bytes_eq text (codes "half") then Some true else if bytes_eq text (codes "fraction") then Some false else None
+
+abbrev pub both_sizes : ℕ → Option ℕ → Option ℕ → Option (Option GenWish)
+both_sizes start (Some columns) (Some rows) = Some (Some (record { start = start; columns = columns; rows = rows }))
+both_sizes start _ _ = None
+
+abbrev pub sizes_of : Option ℕ → Option ℕ → Option ℕ → Option (Option GenWish)
+sizes_of None columns rows = None
+sizes_of (Some start) columns rows = both_sizes start columns rows
+
+-- the generated problem; its sizes may be named only beside its start
+abbrev pub generate_of : Option Text → Option Text → Option Text → Option (Option GenWish)
+generate_of None None None = Some None
+generate_of None _ _ = None
+generate_of (Some start) columns rows = sizes_of (number_in 0 2147483647 start) (number_or 1 1000 30 columns) (number_or 0 1000 10 rows)
+
+-- the values that options have ask for this; each range and default stands here
+pub record Asks (value : Text → Option Text) (w : Wish) : Type 0 where
+  pub workers : number_or 1 64 1 (value (codes "workers")) ≡ Some w.workers
+  pub nodes : number_or 0 100000 20000 (value (codes "nodes")) ≡ Some w.settings.nodes
+  pub span : number_or 1 64 8 (value (codes "span")) ≡ Some w.settings.span
+  pub order : order_of (value (codes "order")) ≡ Some w.settings.order
+  pub half : half_of (value (codes "branch")) ≡ Some w.half
+  pub gap : number_or 0 1000000000 0 (value (codes "gap")) ≡ Some w.gap
+  pub unscaled : w.settings.gap ≡ pos 0
+  pub generate : generate_of (value (codes "gen")) (value (codes "columns")) (value (codes "rows")) ≡ Some w.generate
+
+-- the words after the name of a program mean this wish; `one` is true for the program without workers
+pub record Means (one : Bool) (words : List Text) (w : Wish) : Type 0 where
+  pub uses : List Use
+  pub spelled : Spell (options one) words uses
+  pub asked : Asks (λ name. value_of name uses) w
+
+abbrev pub MeansNothing : Bool → List Text → Type 0
+MeansNothing one words = (w : Wish) → Means one words w → ⊥
+
+-- ---- what holds of each wish
+
+-- the sizes of a problem that can be made
+pub record AreSizes (g : GenWish) : Type 0 where
+  pub start : g.start < 2 ^ 31
+  pub some_columns : 1 ≤ g.columns
+  pub few_columns : g.columns ≤ 1000
+  pub few_rows : g.rows ≤ 1000
+
+pub record IsWithinRanges (w : Wish) : Type 0 where
+  pub some_workers : 1 ≤ w.workers
+  pub few_workers : w.workers ≤ 64
+  pub few_nodes : w.settings.nodes ≤ 100000
+  pub some_span : 1 ≤ w.settings.span
+  pub few_span : w.settings.span ≤ 64
+  pub few_gap : w.gap ≤ 1000000000
+  pub unscaled : w.settings.gap ≡ pos 0
+  pub sizes : IfSome w.generate AreSizes
