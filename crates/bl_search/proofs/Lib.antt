@@ -1,3 +1,4 @@
+pub mod Places
 pub mod Putting
 pub mod Serials
 pub mod Tidying

@@ -1,6 +1,6 @@
 -- The outcome of the work may be put in.
-use Rattle.std.proofs.Common.{◌≡◌, ◌≢◌, ℕ, zero, suc, ◌+◌, ◌-◌, ◌<◌, ◌≤◌, ℤ, ◌≤ℤ◌, List, [], ◌∷◌, ◌++◌, length, refl, ap, sym, ◌∙◌, subst, arith, Some, None, Option, inl, inr, ◌⊎◌, Bool, true, false, cond, length-append, All}
-use Rattle.std.specs.Prelude.{reverse, int_le, nat_le, Contains, ◌==◌}
+use Rattle.std.proofs.Common.{◌≡◌, ℕ, zero, suc, ◌+◌, ◌-◌, ◌<◌, ◌≤◌, ℤ, ◌≤ℤ◌, List, [], ◌∷◌, ◌++◌, length, ap, sym, ◌∙◌, subst, arith, Some, Option, inl, inr, ◌⊎◌, Bool, true, false, cond, length-append, All}
+use Rattle.std.specs.Prelude.{reverse, int_le, nat_le, ◌==◌}
 use Rattle.std.proofs.lemmas.Int.{ints}
 use Rattle.std.proofs.lemmas.Bool.{and_parts}
 use Rattle.bl_num.specs.Exact.{at}
@@ -23,7 +23,7 @@ use Rattle.bl_journal.specs.Births.{nodes_of, node_at}
 use Rattle.bl_journal.specs.Descriptions.{full_of, left_child, right_child}
 use Rattle.bl_journal.specs.States.{has_point, state_of, out, cutoff_of}
 use Rattle.bl_journal.specs.Pieces.{stored_of, form_at_birth, piece_below}
-use Rattle.bl_journal.specs.Legality.{IsLegal, MayPut, ids_added, step_of, most_new_cuts, IsNewId}
+use Rattle.bl_journal.specs.Legality.{MayPut, step_of, most_new_cuts, IsNewId}
 use Rattle.bl_journal.specs.Laws.{LeasesAreWorkable, ChildrenFollow, NewbornsAreStored, CutsWereAdded}
 use Rattle.bl_journal.proofs.Growth.{reverse-push}
 use Rattle.bl_journal.proofs.Leaves.{shape, out_born}
@@ -31,9 +31,10 @@ use Rattle.bl_tree.specs.Views.{TreeView, LeaseView, past_of, extended, put_entr
 use Rattle.bl_branch.specs.Calls.{Calls}
 use Rattle.bl_node.specs.declared.limits.Limits.{Limits}
 use Rattle.bl_node.specs.Standing.{IsNode}
-use Rattle.bl_node.specs.Names.{AreNamedBelow, AreNumbered, added_in}
+use Rattle.bl_cover.specs.declared.separator.Try.{Try}
+use Rattle.bl_node.specs.Names.{AreNamedBelow, AreNumbered}
 use Rattle.bl_node.specs.Outcomes.{common_of, form_of}
-use Rattle.bl_node.specs.Promise.{IsPromised, SplitsAsPromised}
+use Rattle.bl_node.specs.Promise.{IsPromised, SplitsAsPromised, added_in}
 use Rattle.bl_search.specs.Searches.{AreSerialsBelow, AreLimitsAt}
 use Rattle.bl_search.proofs.Serials.{named_below, numbered_new, added_step}
 
@@ -79,7 +80,7 @@ form_under t id = form_at_birth t.settings.span ((node_at t.problem (past_of t) 
 
 -- the children of a split, after the common change, are what is stored of them
 split_stored : ChildrenFollow → NewbornsAreStored → (t : TreeView) (id : ℕ) (found : Option (List ℤ)) (low : ℤ) (common : Change Cut) (column : ℕ) (at_most : ℤ) (d : Desc Cut) → IsLegalTree t
-    → MayPut t.problem (past_of t) 0 id found low (SplitStep common column at_most) → changed common (full_of t.problem (past_of t) id) ≡ d
+    → MayPut t.problem t.settings (past_of t) 0 id found low (SplitStep common column at_most) → changed common (full_of t.problem (past_of t) id) ≡ d
     → PiecesStored (extended t (Put 0 id found low (SplitStep common column at_most)))
     (Split common column at_most (piece_below (full_of t.problem (past_of t) id) (form_under t id) (left_child d column at_most))
     (piece_below (full_of t.problem (past_of t) id) (form_under t id) (right_child d column at_most)))
@@ -106,7 +107,7 @@ split_stored children stored t id found low common column at_most d legal may is
 
 -- the pieces of an outcome are what is stored
 pieces_for : {F : Type 0} (g : Calls F) (closure : F) → ChildrenFollow → NewbornsAreStored → (t : TreeView) (id : ℕ) (form : Form) (o : Outcome) → IsLegalTree t
-    → IsNode t.problem (full_of t.problem (past_of t) id) → form ≡ form_under t id → MayPut t.problem (past_of t) 0 id o.found o.low (step_of o.next)
+    → IsNode t.problem (full_of t.problem (past_of t) id) → form ≡ form_under t id → MayPut t.problem t.settings (past_of t) 0 id o.found o.low (step_of o.next)
     → (o.next ≡ Shut) ⊎ SplitsAsPromised g closure t.problem (full_of t.problem (past_of t) id) form o → PiecesStored (extended t (put_entry 0 id o)) o.next
 pieces_for g closure children stored t id form o legal node same may (inl e) =
     subst (λ (n : Next). PiecesStored (extended t (Put 0 id o.found o.low (step_of n))) n) (sym e) tt
@@ -114,22 +115,22 @@ pieces_for g closure children stored t id form o legal node same may (inr k) =
     let f : Desc Cut = full_of t.problem (past_of t) id in
     let d : Desc Cut = k.work.desc in
     let is : changed (common_of f d) f ≡ d = changed-difference (λ (c : Cut). c.id) f d node.whole k.narrows.whole k.narrows.low_width (sym k.narrows.rows) k.narrows.part in
-    let allowed = subst (λ (n : Next). MayPut t.problem (past_of t) 0 id o.found o.low (step_of n)) k.is.next may in
+    let allowed = subst (λ (n : Next). MayPut t.problem t.settings (past_of t) 0 id o.found o.low (step_of n)) k.is.next may in
     subst (λ (n : Next). PiecesStored (extended t (Put 0 id o.found o.low (step_of n))) n) (sym k.is.next)
     (rw same (split_stored children stored t id o.found o.low (common_of f d) k.place.column k.place.at d legal allowed is))
 
 -- an outcome as it was promised may be put in
-pub put_fits : {F : Type 0} (g : Calls F) (closure : F) → ChildrenFollow → NewbornsAreStored → (t : TreeView) (lease : LeaseView) (limits : Limits) (serial : ℕ) (o : Outcome) → IsLegalTree t → IsLeaseOf t 0 lease
-    → IsNode t.problem (full_of t.problem (past_of t) lease.id) → AreSerialsBelow serial (past_of t) → AreLimitsAt lease.depth serial limits → form_of limits ≡ form_under t lease.id
-    → IsPromised g closure t.problem (full_of t.problem (past_of t) lease.id) (cutoff_of t.problem (past_of t) lease.id) limits o → IsPutFor t 0 lease o
-put_fits g closure children stored t lease limits serial o legal leased node names at_depth form k =
+pub put_fits : {F : Type 0} (g : Calls F) (closure : F) (allows : Desc Cut → Try → Type 0) → ChildrenFollow → NewbornsAreStored → (t : TreeView) (lease : LeaseView) (limits : Limits) (span serial : ℕ) (o : Outcome) → IsLegalTree t → IsLeaseOf t 0 lease
+    → IsNode t.problem (full_of t.problem (past_of t) lease.id) → AreSerialsBelow serial (past_of t) → AreLimitsAt span lease.depth serial limits → form_of limits ≡ form_under t lease.id
+    → IsPromised g closure allows t.problem (full_of t.problem (past_of t) lease.id) (cutoff_of t.problem t.settings (past_of t) lease.id) limits o → IsPutFor t 0 lease o
+put_fits g closure allows children stored t lease limits span serial o legal leased node names at_depth form k =
     let few : length (added_in o.next) ≤ most_new_cuts (node_at t.problem (past_of t) lease.id).depth =
     let a = k.adds.few in
     let b = at_depth.new_cuts ∙ ap most_new_cuts leased.depth in
     omega (arith, a, b) in
     let numbered : AreNumbered 0 limits.serial (added_in o.next) = subst (λ (seat : ℕ). AreNumbered seat limits.serial (added_in o.next)) at_depth.seat k.adds.numbered in
     let new = numbered_new serial (past_of t) (added_in o.next) limits.serial numbered (let e = at_depth.serial_is in omega (arith, e)) names in
-    let may : MayPut t.problem (past_of t) 0 lease.id o.found o.low (step_of o.next) =
+    let may : MayPut t.problem t.settings (past_of t) 0 lease.id o.found o.low (step_of o.next) =
     record {
       is_out = leased.is_out;
       sound = k.sound;
@@ -139,11 +140,11 @@ put_fits g closure children stored t lease limits serial o legal leased node nam
     record { leased = leased; allowed = may; pieces = pieces_for g closure children stored t lease.id (form_of limits) o legal node form may k.split }
 
 -- the form by the limits is that of the children
-pub form_is : (t : TreeView) (lease : LeaseView) (serial : ℕ) (limits : Limits) → t.settings.span ≡ 8 → lease.depth ≡ (node_at t.problem (past_of t) lease.id).depth → AreLimitsAt lease.depth serial limits
-    → form_of limits ≡ form_under t lease.id
-form_is t lease serial limits span depth h =
-    ap (λ (b : Bool). cond b Explicit Relative) h.explicit ∙ ap (λ (n : ℕ). form_at_birth 8 (n + 1)) depth
-    ∙ ap (λ (n : ℕ). form_at_birth n ((node_at t.problem (past_of t) lease.id).depth + 1)) (sym span)
+pub form_is : (t : TreeView) (lease : LeaseView) (span serial : ℕ) (limits : Limits) → t.settings.span ≡ span → lease.depth ≡ (node_at t.problem (past_of t) lease.id).depth
+    → AreLimitsAt span lease.depth serial limits → form_of limits ≡ form_under t lease.id
+form_is t lease span serial limits same depth h =
+    ap (λ (b : Bool). cond b Explicit Relative) h.explicit ∙ ap (λ (n : ℕ). form_at_birth span (n + 1)) depth
+    ∙ ap (λ (n : ℕ). form_at_birth n ((node_at t.problem (past_of t) lease.id).depth + 1)) (sym same)
 
 pub few_new : (depth : ℕ) → most_new_cuts depth ≤ 20
 few_new depth = by (depth == 0) (nat_le depth 8)

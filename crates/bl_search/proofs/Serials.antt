@@ -1,9 +1,8 @@
 -- The names of the cuts that seat 0 adds.
-use Rattle.std.proofs.Common.{◌≡◌, ℕ, zero, suc, ◌+◌, ◌<◌, ◌≤◌, List, [], ◌∷◌, ◌++◌, length, map, refl, ap, sym, ◌∙◌, subst, arith, All}
+use Rattle.std.proofs.Common.{◌≡◌, ℕ, ◌+◌, ◌<◌, ◌≤◌, List, [], ◌∷◌, length, map, refl, ap, sym, subst, arith, All}
 use Rattle.std.specs.Prelude.{Contains}
 use Rattle.std.proofs.lemmas.List.Elements.{All-contains}
 use Rattle.bl_mods.specs.declared.mods.ItemId.{ItemId}
-use Rattle.bl_problem.specs.Program.{Program}
 use Rattle.bl_problem.specs.declared.cut.Cut.{Cut}
 use Rattle.bl_journal.specs.declared.entry.Entry.{Entry}
 use Rattle.bl_journal.specs.declared.entry.Entry.TheVariants.{Take}
@@ -17,7 +16,8 @@ use Rattle.bl_journal.proofs.Workable.{Each-from_all, All-from_each}
 use Rattle.bl_journal.proofs.Upkeep.{untouched}
 use Rattle.bl_tree.specs.Views.{TreeView, past_of, extended, put_entry}
 use Rattle.bl_node.specs.declared.limits.Limits.{Limits}
-use Rattle.bl_node.specs.Names.{AreNumbered, AddsFew, added_in, AreNamedBelow}
+use Rattle.bl_node.specs.Names.{AreNumbered, AreNamedBelow}
+use Rattle.bl_node.specs.Promise.{added_in}
 use Rattle.bl_search.specs.Searches.{AreSerialsBelow, IsKeptUp}
 use Rattle.bl_search.proofs.Tidying.{each_upkeep, at_new}
 
@@ -55,12 +55,11 @@ added_step Shut = refl
 added_step (Split common column at left right) = refl
 
 -- after the put of an outcome
-pub below_put : (serial n id : ℕ) (limits : Limits) (t : TreeView) (o : Outcome) → limits.serial ≡ serial → AddsFew limits o.next → serial + limits.new_cuts ≤ n → AreSerialsBelow serial (past_of t)
+pub below_put : (serial n id : ℕ) (limits : Limits) (t : TreeView) (o : Outcome) → limits.serial ≡ serial → AreNumbered limits.seat limits.serial (added_in o.next) → length (added_in o.next) ≤ limits.new_cuts → serial + limits.new_cuts ≤ n → AreSerialsBelow serial (past_of t)
     → AreSerialsBelow n (past_of (extended t (put_entry 0 id o)))
-below_put serial n id limits t o e a l h =
+below_put serial n id limits t o e a few l h =
     let old = Each-weaken (IsBelow serial) (IsBelow n) (λ k b s. let m = b s in omega (arith, m, l)) (ids_added (past_of t)) (Each-from_all (IsBelow serial) (ids_added (past_of t)) h) in
-    let few = a.few in
-    let new = numbered_below limits.seat limits.serial n (added_in o.next) a.numbered (omega (arith, e, l, few)) in
+    let new = numbered_below limits.seat limits.serial n (added_in o.next) a (omega (arith, e, l, few)) in
     let new2 = subst (λ (cuts : List Cut). Each (IsBelow n) (map (λ (c : Cut). c.id) cuts)) (sym (added_step o.next)) new in
     subst (AreSerialsBelow n) (sym (reverse-push t.history (put_entry 0 id o)))
     (All-from_each (IsBelow n) _ (Each-append (IsBelow n) (map (λ (c : Cut). c.id) (added_by_step (step_of o.next))) (ids_added (past_of t)) new2 old))

@@ -1,11 +1,10 @@
 -- The search by one seat.
-use Rattle.std.specs.Prelude.{◌≡◌, ℕ, ◌+◌, ◌*◌, ◌%◌, ◌==◌, ◌<◌, ◌≤◌, List, ◌++◌, All, Bool, true, false, reverse, Option, Some, None, IfSome}
+use Rattle.std.specs.Prelude.{◌≡◌, ℕ, pos, ◌+◌, ◌*◌, ◌%◌, ◌==◌, ◌<◌, ◌≤◌, List, ◌++◌, All, Bool, true, false, reverse, Option, Some, None, IfSome}
 use Rattle.bl_problem.specs.Program.{Program}
 use Rattle.bl_problem.specs.Points.{own_lows, own_highs, points_in}
 use Rattle.bl_journal.specs.declared.entry.Entry.{Entry}
 use Rattle.bl_journal.specs.declared.outcome.Outcome.{Outcome}
 use Rattle.bl_journal.specs.declared.settings.Settings.{Settings}
-use Rattle.bl_journal.specs.declared.settings.Order.TheVariants.{Best}
 use Rattle.bl_journal.specs.States.{state_of, used_of}
 use Rattle.bl_journal.specs.Replies.{Reply, is_out, take_reply, done as says_done, spent as says_spent}
 use Rattle.bl_journal.specs.Legality.{IsLegal, seat_of, ids_added, most_new_cuts}
@@ -20,18 +19,14 @@ use Rattle.bl_search.specs.declared.search.Turn.{Turn}
 use Rattle.bl_search.specs.declared.search.Turn.TheVariants.{Worked, Done, Spent}
 use Rattle.bl_search.specs.declared.search.EndedSearch.{EndedSearch}
 
--- at most so many nodes, those of each eighth depth stored whole, best first
-abbrev pub settings_of : ℕ → Settings
-settings_of nodes = record { nodes = nodes; span = 8; order = Best }
-
 -- the serial numbers of the cuts that seat 0 has added are below this one
 abbrev pub AreSerialsBelow : ℕ → List Entry → Type 0
 AreSerialsBelow serial past = All (λ id. id.seat ≡ 0 → id.serial < serial) (ids_added past)
 
--- what the work on a node at this depth may do, with serial numbers from this one on
-pub record AreLimitsAt (depth serial : ℕ) (limits : Limits) : Type 0 where
+-- what the work on a node at this depth may do, where each depth that the span divides is stored whole, with serial numbers from this one on
+pub record AreLimitsAt (span depth serial : ℕ) (limits : Limits) : Type 0 where
   pub new_cuts : limits.new_cuts ≡ most_new_cuts depth
-  pub explicit : limits.explicit ≡ (depth + 1) % 8 == 0
+  pub explicit : limits.explicit ≡ (depth + 1) % span == 0
   pub seat : limits.seat ≡ 0
   pub serial_is : limits.serial ≡ serial
 
@@ -104,13 +99,13 @@ pub record IsLimited (p : Program) (s : Settings) (past : List Entry) : Type 0 w
   pub short : s.nodes + 2 ≤ 2 * points_in (own_lows p) (own_highs p)
 
 -- no node is live, and so the answer is final
-pub record IsDecided (p : Program) (past : List Entry) : Type 0 where
-  pub none_live : HasNoLive p past
-  pub final_answer : IsFinal (answer_of p past)
+pub record IsDecided (p : Program) (s : Settings) (past : List Entry) : Type 0 where
+  pub none_live : HasNoLive p s past
+  pub final_answer : IsFinal (answer_of p s past)
 
 abbrev pub EndsBy : Bool → Program → Settings → List Entry → Type 0
 EndsBy true p s past = IsLimited p s past
-EndsBy false p s past = IsDecided p past
+EndsBy false p s past = IsDecided p s past
 
 -- the reply that ends a search
 abbrev pub last_reply : Bool → Reply
@@ -126,7 +121,7 @@ pub record IsEndedHistory (p : Program) (s : Settings) (limited : Bool) (history
   pub tidied : IsTidied p s 0 (reverse history)
   pub ends : EndsBy limited p s (reverse history)
 
-pub record IsSearched (p : Program) (nodes : ℕ) (search : EndedSearch) : Type 0 where
+pub record IsSearched (p : Program) (s : Settings) (search : EndedSearch) : Type 0 where
   pub problem : search.tree.problem ≡ p
-  pub settings : search.tree.settings ≡ settings_of nodes
-  pub ended : IsEndedHistory p (settings_of nodes) search.limited search.tree.history
+  pub settings : search.tree.settings ≡ s
+  pub ended : IsEndedHistory p s search.limited search.tree.history

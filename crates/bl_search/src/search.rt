@@ -1,9 +1,11 @@
 //! The search: seat 0 takes a node, works on it, puts it back and tidies up, until no node is live or the budget is spent.
-ghost use Rattle.std.specs.Prelude.{◌≡◌, ◌≤◌, ◌+◌, ◌%◌, ◌==◌, IfOk, OnOk, IfSome};
+ghost use Rattle.std.specs.Prelude.{◌≡◌, pos, ◌≤ℤ◌, ◌<◌, ◌≤◌, ◌+◌, ◌%◌, ◌==◌, IfOk, OnOk, IfSome};
 ghost use Rattle.bl_tree.specs.Views.{IsLeaseOf, past_of};
 ghost use Rattle.bl_tree.specs.Answers.{IsBorn};
 ghost use Rattle.bl_search.specs.Searches.{IsBetweenTurns, EndsTurn, PutsIn, IsStoredWhole, AreStoredWhole, IsFreed, HasTidied, count_with, IsSearched, IsEndedHistory, last_reply, AreSerialsBelow, AreLimitsAt};
+ghost use Rattle.bl_search.specs.Places.{MayAnswer, SplitsAt};
 ghost use Rattle.bl_branch.specs.Calls.{IsRule};
+ghost use Rattle.bl_journal.specs.declared.settings.TheConstants.{LARGEST_GAP};
 ghost use Rattle.bl_journal.specs.Legality.{most_new_cuts};
 ghost use Rattle.bl_journal.specs.Replies.{take_reply};
 ghost use Rattle.bl_journal.specs.Tidying.{splits_of};
@@ -12,19 +14,16 @@ use bl_branch::{BranchRule, Place};
 use bl_cover::Separate;
 use bl_desc::{Desc, Form};
 use bl_fixed::Fixed;
+use bl_journal::Settings;
 use bl_journal::laws::{
     budget_holds, children_follow, cuts_were_added, leases_are_workable, newborns_are_stored,
     replies_end_searches,
 };
-use bl_journal::{Order, Settings};
 use bl_node::{Hints, Limits, work_hinted};
 use bl_problem::{Cut, Problem};
 use bl_tree::{Born, Freed, Lease, Taken, Tree};
 use std::alloc::{AllocError, Global};
 use std::sync::Arc;
-
-/// Each node whose depth the span divides is stored whole.
-const SPAN: u32 = 8;
 
 /// After each split whose count this divides, both children are stored whole.
 const SPLITS: u32 = 4;
@@ -57,21 +56,23 @@ fn new_cuts(depth: u32) -> u32
 }
 
 // Whether the children of a node at this depth are stored whole.
-fn bears_whole(depth: u32) -> bool
-    ensures { result ≡ ((depth + 1) % 8 == 0) }
+fn bears_whole(depth: u32, span: u32) -> bool
+    requires { 0 < span }
+    ensures { result ≡ ((depth + 1) % span == 0) }
 {
-    (depth as u64 + 1) % (SPAN as u64) == 0
+    (depth as u64 + 1) % (span as u64) == 0
 }
 
 // What the work on the node of a lease may do.
-fn limits_of(problem: &Problem, lease: &Lease, serial: u32) -> Limits
-    ensures { AreLimitsAt lease.now.depth serial result }
+fn limits_of(problem: &Problem, lease: &Lease, span: u32, serial: u32) -> Limits
+    requires { 0 < span }
+    ensures { AreLimitsAt span lease.now.depth serial result }
 {
     let size = problem.columns().len() + problem.rows().len();
     Limits {
         pivots: 4 * (size as u32 + 200) + 100,
         new_cuts: new_cuts(lease.depth()),
-        explicit: bears_whole(lease.depth()),
+        explicit: bears_whole(lease.depth(), span),
         seat: 0,
         serial,
     }
@@ -86,16 +87,20 @@ fn finish<F: Fn(&Desc<Cut>, &[Fixed]) -> Place, S: Separate>(
     rule: &BranchRule<F>,
     separator: &S,
     hints: &mut Hints,
+    span: u32,
     serial: u32,
 ) -> Result<Option<Born>, AllocError>
     requires problem { tree.old.problem ≡ problem.now }
-    requires span { tree.old.settings.span ≡ 8 }
+    requires span { tree.old.settings.span ≡ span }
+    requires some_span { 0 < span }
     requires leased { IsLeaseOf tree.old 0 lease }
     requires rule { IsRule F.Fn rule.now.closure }
     requires serials { AreSerialsBelow serial (past_of tree.old) }
     requires room { serial ≤ 2000000 }
+    requires places { SplitsAt (MayAnswer F.Fn rule.now.closure) problem.now (past_of tree.old) }
     ensures put { IfOk result (λ born. PutsIn tree.old lease born tree.new) }
     ensures serials { IfOk result (λ born. AreSerialsBelow (serial + 20) (past_of tree.new)) }
+    ensures places { IfOk result (λ born. SplitsAt (MayAnswer F.Fn rule.now.closure) problem.now (past_of tree.new)) }
 {
     leases_are_workable();
     children_follow();
@@ -103,7 +108,7 @@ fn finish<F: Fn(&Desc<Cut>, &[Fixed]) -> Place, S: Separate>(
     cuts_were_added();
     let _columns = problem.columns();
     let _journal = tree.journal();
-    let limits = limits_of(problem, &lease, serial);
+    let limits = limits_of(problem, &lease, span, serial);
     match work_hinted(
         alloc,
         problem,
@@ -176,23 +181,29 @@ fn take_turn<F: Fn(&Desc<Cut>, &[Fixed]) -> Place, S: Separate>(
     rule: &BranchRule<F>,
     separator: &S,
     hints: &mut Hints,
+    span: u32,
     splits: u32,
     serial: u32,
 ) -> Result<Turn, AllocError>
     requires problem { tree.old.problem ≡ problem.now }
-    requires span { tree.old.settings.span ≡ 8 }
+    requires span { tree.old.settings.span ≡ span }
+    requires some_span { 0 < span }
     requires between { IsBetweenTurns tree.old }
     requires splits { splits ≡ splits_of 0 (past_of tree.old) }
     requires few { splits ≤ 100000 }
     requires rule { IsRule F.Fn rule.now.closure }
     requires serials { AreSerialsBelow serial (past_of tree.old) }
     requires room { serial ≤ 2000000 }
+    requires places { SplitsAt (MayAnswer F.Fn rule.now.closure) problem.now (past_of tree.old) }
     ensures turn { IfOk result (λ turn. EndsTurn tree.old turn tree.new) }
     ensures serials { IfOk result (λ turn. AreSerialsBelow (serial + 20) (past_of tree.new)) }
+    ensures places { IfOk result (λ turn. SplitsAt (MayAnswer F.Fn rule.now.closure) problem.now (past_of tree.new)) }
 {
     match tree.take(0)? {
         Taken::Node(lease) => {
-            let born = finish(alloc, problem, tree, lease, rule, separator, hints, serial)?;
+            let born = finish(
+                alloc, problem, tree, lease, rule, separator, hints, span, serial,
+            )?;
             let splits = tidy(tree, born, splits)?;
             Ok(Turn::Worked { splits })
         }
@@ -222,35 +233,43 @@ fn end(tree: Tree, limited: bool) -> EndedSearch
     EndedSearch { tree, limited }
 }
 
-/// Searches the tree of a problem, using at most so many nodes, which are split where the
-/// rule says, with the cuts that the separator proposes.
+/// Searches the tree of a problem by these settings. Each split is at a place that the rule may
+/// answer for the node's description after the common change, and the separator proposes cuts.
 /// `AllocError` where there is no memory.
 pub fn search_tree<F: Fn(&Desc<Cut>, &[Fixed]) -> Place, S: Separate>(
     alloc: Global,
     problem: &Arc<Problem>,
-    nodes: u32,
+    settings: Settings,
     rule: &BranchRule<F>,
     separator: &S,
 ) -> Result<EndedSearch, AllocError>
-    requires nodes { nodes ≤ 100000 }
+    requires nodes { settings.nodes ≤ 100000 }
+    requires some_span { 0 < settings.span }
+    requires few_spans { settings.span ≤ 64 }
+    requires some_gap { pos 0 ≤ℤ settings.gap }
+    requires few_gaps { settings.gap ≤ℤ LARGEST_GAP }
     requires rule { IsRule F.Fn rule.now.closure }
-    ensures { IfOk result (λ search. IsSearched problem.now.value nodes search) }
+    ensures searched { IfOk result (λ search. IsSearched problem.now.value settings search) }
+    ensures places { IfOk result (λ search. SplitsAt (MayAnswer F.Fn rule.now.closure) problem.now.value (past_of search.tree)) }
 {
     budget_holds();
-    let settings = Settings {
-        nodes,
-        span: SPAN,
-        order: Order::Best,
-    };
     let mut tree = Tree::new(alloc, Arc::try_clone(problem)?, settings)?;
     // A root that is not live is freed before the first take.
     free_all(&mut tree)?;
     let mut splits = 0;
     let mut hints = Hints::new(alloc);
-    for turn in 0..nodes + 1 {
+    for turn in 0..settings.nodes + 1 {
         let serial = MOST_NEW_CUTS * turn;
         match take_turn(
-            alloc, problem, &mut tree, rule, separator, &mut hints, splits, serial,
+            alloc,
+            problem,
+            &mut tree,
+            rule,
+            separator,
+            &mut hints,
+            settings.span,
+            splits,
+            serial,
         )? {
             Turn::Worked { splits: count } => splits = count,
             Turn::Done => return Ok(end(tree, false)),
