@@ -4,11 +4,12 @@ use Rattle.std.specs.Fmt.{signed_decimal}
 use Rattle.bl_num.specs.Texts.{text_of}
 use Rattle.bl_problem.specs.declared.problem.Column.{Column}
 use Rattle.bl_problem.specs.Program.{Program}
+use Rattle.bl_problem.specs.Points.{shown_of}
 use Rattle.bl_cards.specs.declared.kind.What.{What}
 use Rattle.bl_cards.specs.declared.kind.What.TheVariants.{Section, Words, Number, TooWide, UnknownRow, UnknownColumn, Twice, NotWhole, Unbounded, FractionBound, TooMany, NoObjective, Marker, NoEnd}
 use Rattle.bl_cards.specs.Reading.{Fault}
 use Rattle.bl_journal.specs.States.{Found}
-use Rattle.bl_journal.specs.Results.{Verdict, optimal, infeasible, bounded}
+use Rattle.bl_journal.specs.Results.{Verdict, optimal, within, infeasible, bounded}
 
 -- `col NAME v`
 abbrev pub column_line : Column → ℤ → List ℕ
@@ -25,9 +26,13 @@ abbrev pub shown_columns : Bool → List Column → List ℤ → List ℕ
 shown_columns true columns point = column_lines columns point
 shown_columns false columns point = []
 
--- `objective V`, in units of 10^-scale, and the columns' lines
+-- a value or a bound in the file's sense, in units of 10^-scale, and a line feed
+abbrev pub value_line : Program → ℤ → List ℕ
+value_line p v = text_of (shown_of p v) p.scale ++ codes "\n"
+
+-- `objective V`, and the columns' lines
 abbrev pub found_lines : Program → Bool → Found → List ℕ
-found_lines p with_columns f = codes "objective " ++ (text_of f.value p.scale ++ codes "\n") ++ shown_columns with_columns p.columns f.point
+found_lines p with_columns f = codes "objective " ++ value_line p f.value ++ shown_columns with_columns p.columns f.point
 
 abbrev pub best_lines : Program → Bool → Option Found → List ℕ
 best_lines p with_columns None = codes "objective none\n"
@@ -36,8 +41,9 @@ best_lines p with_columns (Some f) = found_lines p with_columns f
 -- the lines of an answer
 abbrev pub verdict_text : Program → Bool → Verdict → List ℕ
 verdict_text p with_columns (optimal f) = codes "status optimal\n" ++ found_lines p with_columns f ++ codes "end\n"
+verdict_text p with_columns (within f bound) = codes "status within\nbound " ++ value_line p bound ++ found_lines p with_columns f ++ codes "end\n"
 verdict_text p with_columns infeasible = codes "status infeasible\n" ++ codes "end\n"
-verdict_text p with_columns (bounded bound f) = codes "status limit\nbound " ++ (text_of bound p.scale ++ codes "\n") ++ best_lines p with_columns f ++ codes "end\n"
+verdict_text p with_columns (bounded bound f) = codes "status limit\nbound " ++ value_line p bound ++ best_lines p with_columns f ++ codes "end\n"
 
 -- the name of a broken rule
 abbrev pub what_name : What → List ℕ

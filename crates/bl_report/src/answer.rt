@@ -1,16 +1,17 @@
 //! The text of an answer.
-ghost use Rattle.std.specs.Prelude.{◌≡◌, ◌++◌, ◌≤◌, length, codes, IfOk, OnOk};
+ghost use Rattle.std.specs.Prelude.{◌≡◌, ◌++◌, ◌≤◌, ◌-◌, ◌^◌, negsuc, length, drop, codes, IfOk, OnOk};
 ghost use Rattle.std.specs.Fmt.{signed_decimal};
 ghost use Rattle.bl_num.specs.Texts.{text_of};
+ghost use Rattle.bl_problem.specs.Points.{shown_of};
 ghost use Rattle.bl_tree.specs.Answers.{verdict_of, found_if};
-ghost use Rattle.bl_report.specs.Texts.{column_lines, column_line, shown_columns, found_lines, best_lines, verdict_text};
+ghost use Rattle.bl_report.specs.Texts.{column_lines, column_line, shown_columns, value_line, found_lines, best_lines, verdict_text};
 
 use bl_num::decimal_text;
-use bl_problem::{Column, Problem};
+use bl_problem::{Column, Problem, Sense};
 use bl_tree::{Answer, Best};
 use std::alloc::{AllocError, Global};
 
-/// The lines of an answer, with a line for each column of its point where they are wanted. `AllocError` where there is no memory.
+/// The lines of an answer, `status` first and `end` last, with its values in the file's sense and with a line for each column of its point where they are wanted. `AllocError` where there is no memory.
 pub fn answer_text(
     alloc: Global,
     problem: &Problem,
@@ -23,6 +24,15 @@ pub fn answer_text(
     match answer {
         Answer::Optimal { value, point } => {
             text.extend_from_slice(b"status optimal\n")?;
+            push_found(alloc, &mut text, problem, *value, point, with_columns)?;
+        }
+        Answer::Within {
+            value,
+            bound: least,
+            point,
+        } => {
+            text.extend_from_slice(b"status within\nbound ")?;
+            push_value(alloc, &mut text, problem, *least)?;
             push_found(alloc, &mut text, problem, *value, point, with_columns)?;
         }
         Answer::Infeasible => text.extend_from_slice(b"status infeasible\n")?,
@@ -83,19 +93,54 @@ fn push_shown(
     }
 }
 
-// A value in units of 10^-scale, and a line feed.
+// A value in the file's sense, in units of 10^-scale, and a line feed.
 fn push_value(
     alloc: Global,
     text: &mut Vec<u8>,
     problem: &Problem,
     value: i128,
 ) -> Result<(), AllocError>
-    ensures { OnOk result (text.new.items ≡ text.old.items ++ text_of value problem.now.scale ++ codes "\n") }
+    ensures { OnOk result (text.new.items ≡ text.old.items ++ value_line problem.now value) }
 {
-    let _columns = problem.columns();
-    let number = decimal_text(alloc, value, problem.scale())?;
+    let number = value_text(alloc, problem, value)?;
     text.extend_from_slice(&number)?;
     text.extend_from_slice(b"\n")
+}
+
+// The text of a value in the file's sense, in units of 10^-scale.
+fn value_text(alloc: Global, problem: &Problem, value: i128) -> Result<Vec<u8>, AllocError>
+    ensures { IfOk result (λ text. text.items ≡ text_of (shown_of problem.now value) problem.now.scale) }
+{
+    let _columns = problem.columns();
+    if value == i128::MIN {
+        return least_text(alloc, problem);
+    }
+    let value = problem.shown(value);
+    let number = decimal_text(alloc, value, problem.scale())?;
+    Ok(number)
+}
+
+// The text of the least value of its type in the file's sense. Its negative has the same digits, and no sign.
+#[tactic(auto, using(crate::proofs::Signs::signless))]
+fn least_text(alloc: Global, problem: &Problem) -> Result<Vec<u8>, AllocError>
+    ensures { IfOk result (λ text. text.items ≡ text_of (shown_of problem.now (negsuc (2 ^ 127 - 1))) problem.now.scale) }
+{
+    let _columns = problem.columns();
+    let text = decimal_text(alloc, i128::MIN, problem.scale())?;
+    match problem.sense() {
+        Sense::Min => Ok(text),
+        Sense::Max => without_first(alloc, &text),
+    }
+}
+
+fn without_first(alloc: Global, text: &[u8]) -> Result<Vec<u8>, AllocError>
+    ensures { IfOk result (λ rest. rest.items ≡ drop 1 text.now) }
+{
+    let mut rest = Vec::new(alloc);
+    if let [_, bytes @ ..] = text {
+        rest.extend_from_slice(bytes)?;
+    }
+    Ok(rest)
 }
 
 fn push_columns(

@@ -1,1 +1,4 @@
 pub mod Answered
+pub mod Splitting
+pub mod Making
+pub mod Units

@@ -1,9 +1,9 @@
-//! The top call: it reads a problem, searches its tree and writes the answer.
+//! Program: the top call, which reads or makes a problem, searches its tree and writes the answer.
 #![tactic(auto)]
 
 mod run;
 #[cfg(test)]
 mod tests;
-mod words;
 
-pub use run::{Ended, run_one};
+pub use bl_words::{GenWish, Wish, WordsFault, read_words};
+pub use run::{Ended, end_without_words, run_one};

@@ -1,7 +1,7 @@
 ghost use Rattle.std.specs.Prelude.{IfOk};
 ghost use Rattle.bl_tree.specs.Views.{IsLeaseOf};
 
-use crate::run_one;
+use crate::{WordsFault, end_without_words, run_one};
 use bl_io::{MemorySink, MemorySource, ReadEnd, read_all};
 use bl_journal::{Entry, Journal, Order, Settings};
 use bl_mps::read;
@@ -352,19 +352,47 @@ fn single_columns_and_odd_files_are_answered(rt: HostRuntime) -> Result<(), Fail
 }
 
 #[test]
-fn budgets_are_kept(rt: HostRuntime) -> Result<(), Fail> {
+fn words_are_followed(rt: HostRuntime) -> Result<(), Fail> {
     let alloc = rt.alloc();
     let limit = b"status limit\nbound 0\nobjective none\nend\n".as_slice();
     let words = b"fault words\n".as_slice();
-    let rows: [(&[&str], u8, &[u8]); 8] = [
+    let rows: [(&[&str], u8, &[u8]); 19] = [
         (&["--nodes", "0"], 1, limit),
-        (&["--nodes", "000"], 1, limit),
+        (&["--nodes=000"], 1, limit),
         (&["--nodes", "241"], 0, BEST),
+        (
+            &["--span", "1", "--order=depth", "--branch", "half"],
+            0,
+            BEST,
+        ),
         (&["--nodes", "100001"], 2, words),
-        (&["--nodes", "0000001"], 2, words),
+        (&["--nodes", "00000000001"], 2, words),
         (&["--nodes", "x"], 2, words),
+        (&["--nodes", "1", "--nodes", "1"], 2, words),
         (&["--nodes"], 2, words),
+        (&["--"], 2, words),
+        (&["--speed", "1"], 2, words),
+        (&["--workers", "1"], 2, words),
+        (&["--columns", "3"], 2, words),
         (&["x"], 2, words),
+        (&["--log"], 2, words),
+        // a problem that is made, whose columns are not told
+        (
+            &["--gen", "1", "--columns", "2", "--rows", "1"],
+            0,
+            b"status optimal\nobjective -39\nend\n",
+        ),
+        (
+            &["--gen=1", "--rows=0", "--columns=2"],
+            0,
+            b"status optimal\nobjective -98\nend\n",
+        ),
+        (&["--gen=1"], 0, b"status optimal\nobjective -1064\nend\n"),
+        (
+            &["--gen", "1", "--branch=half", "--nodes", "0"],
+            1,
+            b"status limit\nbound -1527\nobjective none\nend\n",
+        ),
     ];
     for (list, status, text) in rows {
         let (got, sink) = run(alloc, cover(alloc, &[])?, &words_of(alloc, list)?)?;
@@ -412,6 +440,7 @@ fn trees_follow_their_history(rt: HostRuntime) -> Result<(), Fail> {
         nodes: 100,
         span: 1,
         order: Order::Best,
+        gap: 0,
     };
     let mut tree = Tree::new(alloc, Arc::try_clone(&problem)?, settings)?;
     assert_eq!(rt; tree.held(), 7);
@@ -456,7 +485,19 @@ fn faults_of_the_outside_are_told(rt: HostRuntime) -> Result<(), Fail> {
     let words = [String::from_str(alloc, "x")?];
     assert_eq!(rt; run_one(alloc, &words, &mut source, &mut sink).status, 2);
     assert!(rt; sink.kept() == b"fault words\n".as_slice());
+    // and so it is where a problem is made
+    let words = words_of(alloc, &["--gen", "1", "--columns", "2", "--rows", "1"])?;
+    assert_eq!(rt; run_one(alloc, &words, &mut source, &mut sink).status, 0);
     assert_eq!(rt; run_one(alloc, &[], &mut source, &mut sink).status, 0);
+    // the words can't be had
+    for (fault, status, line) in [
+        (WordsFault::Refused, 2u8, b"fault words\n".as_slice()),
+        (WordsFault::Memory, 6, b"fault memory\n"),
+    ] {
+        let mut sink = MemorySink::new(alloc, 65_536, 65_536, Vec::new(alloc))?;
+        assert_eq!(rt; end_without_words(&mut sink, fault).status, status);
+        assert!(rt; sink.kept() == line);
+    }
     // the second read fails
     let mut source = MemorySource::new(cover(alloc, &[])?, 65_536, vec![in alloc; 2u32]?);
     let mut sink = MemorySink::new(alloc, 65_536, 65_536, Vec::new(alloc))?;
@@ -496,6 +537,88 @@ fn whole_reads_keep_the_limit(rt: HostRuntime) -> Result<(), Fail> {
     ] {
         let text = format!(in alloc; "{end}")?;
         assert!(rt; text.as_str() == name);
+    }
+    Ok(())
+}
+
+#[test]
+fn greatest_values_are_answered(rt: HostRuntime) -> Result<(), Fail> {
+    let alloc = rt.alloc();
+    // 2X + 3Y is at most 7, and as great as can be
+    let asked: Edit = (1, b"NAME          ROWA\nOBJSENSE\n    MAX");
+    let row: Edit = (4, b" L  R1");
+    let constant: Edit = (
+        11,
+        b"    RHS       R1                 7\n    RHS       COST             -10",
+    );
+    let none: [&str; 0] = [];
+    let rows: [(&[Edit], &[&str], u8, &[u8]); 5] = [
+        (&[asked, row], &none, 0, BEST),
+        (
+            &[asked, row],
+            &["--nodes", "0"],
+            1,
+            b"status limit\nbound 50\nobjective none\nend\n",
+        ),
+        (
+            &[(1, b"NAME          ROWA\nOBJSENSE MAX"), row],
+            &none,
+            0,
+            BEST,
+        ),
+        (
+            &[(1, b"NAME          ROWA\nOBJSENSE\n    BEST"), row],
+            &none,
+            3,
+            b"fault model line 3 Words\n",
+        ),
+        (
+            &[asked, row, constant],
+            &none,
+            0,
+            b"status optimal\nobjective 17\ncol X 2\ncol Y 1\nend\n",
+        ),
+    ];
+    for (edits, list, status, text) in rows {
+        let (got, sink) = run(alloc, cover(alloc, edits)?, &words_of(alloc, list)?)?;
+        assert_eq!(rt; got, status);
+        assert!(rt; sink.kept() == text);
+    }
+    Ok(())
+}
+
+#[test]
+fn gaps_are_told(rt: HostRuntime) -> Result<(), Fail> {
+    let alloc = rt.alloc();
+    let only: Edit = (11, b"    RHS       R1                50");
+    let tenths: Edit = (11, b"    RHS       R1                50\n    RHS       COST            -0.5");
+    let within = b"status within\nbound 47\nobjective 50\ncol X 10\ncol Y 10\nend\n".as_slice();
+    let none: [Edit; 5] = [
+        (4, b" E  R1"),
+        (8, b"    Y COST 3 R1 2"),
+        (11, b"    RHS R1 3"),
+        (13, b" UP BND X 5"),
+        (14, b" UP BND Y 5"),
+    ];
+    let rows: [(&[Edit], &[&str], &[u8]); 4] = [
+        (&[only], &["--gap", "3"], within),
+        (
+            &[only],
+            &["--gap=0"],
+            b"status optimal\nobjective 50\ncol X 10\ncol Y 10\nend\n",
+        ),
+        // the gap is in whole units of the objective
+        (
+            &[tenths],
+            &["--gap", "3"],
+            b"status within\nbound 47.5\nobjective 50.5\ncol X 10\ncol Y 10\nend\n",
+        ),
+        (&none, &["--gap", "5"], NONE),
+    ];
+    for (edits, list, text) in rows {
+        let (got, sink) = run(alloc, cover(alloc, edits)?, &words_of(alloc, list)?)?;
+        assert_eq!(rt; got, 0);
+        assert!(rt; sink.kept() == text);
     }
     Ok(())
 }
