@@ -6,7 +6,7 @@ use bl_branch::{BranchRule, Place, half};
 use bl_cover::{CutKinds, KindSeparator, Separate, Try};
 use bl_desc::{Desc, Form};
 use bl_fixed::Fixed;
-use bl_journal::{Entry, Journal, Step};
+use bl_journal::{Entry, Journal, Order, Settings, Step};
 use bl_mps::read;
 use bl_problem::{Cut, Problem};
 use bl_search::search_tree;
@@ -154,7 +154,13 @@ fn cuts_close_the_root(rt: HostRuntime) -> Result<(), Fail> {
     let alloc = rt.alloc();
     let rule = BranchRule::new(by_half);
     let rows = KindSeparator::new(CutKinds::Rows);
-    let search = search_tree(alloc, &problem(alloc, ODD)?, 1, &rule, &rows)?;
+    let settings = Settings {
+        nodes: 1,
+        span: 8,
+        order: Order::Best,
+        gap: 0,
+    };
+    let search = search_tree(alloc, &problem(alloc, ODD)?, settings, &rule, &rows)?;
     assert!(rt; !search.limited);
     assert_eq!(rt; search.tree.glance().best, None);
     Ok(())
@@ -164,7 +170,13 @@ fn cuts_close_the_root(rt: HostRuntime) -> Result<(), Fail> {
 fn searches_tidy_up(rt: HostRuntime) -> Result<(), Fail> {
     let alloc = rt.alloc();
     let rule = BranchRule::new(by_half);
-    let search = search_tree(alloc, &problem(alloc, ODDER)?, 12, &rule, &Silent {})?;
+    let settings = Settings {
+        nodes: 12,
+        span: 8,
+        order: Order::Best,
+        gap: 0,
+    };
+    let search = search_tree(alloc, &problem(alloc, ODDER)?, settings, &rule, &Silent {})?;
     // in so short a search none of the children that are due is born whole
     let (splits, late) = unsettled(search.tree.journal());
     assert!(rt; splits >= 8);
