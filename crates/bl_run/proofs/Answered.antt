@@ -26,5 +26,5 @@ solved law p w a t v same set ended places entries is text =
       places = subst (λ (h : List Entry). SplitsAt (IsSplitBy w.half) p (reverse h)) (sym entries) places;
       is_true = law p (settings_for w p) a.journal.entries (omega (arith, ints)) here.legal;
       is = text ∙ ap (verdict_text p (shows_columns w.generate)) (is ∙ (ap (λ (q : Program). answer_of q t.settings (past_of t)) same
-      ∙ (ap (λ (s : Settings). answer_of p s (past_of t)) set ∙ ap (λ (h : List Entry). answer_of p (settings_for w p) (reverse h)) (sym entries))));
+          ∙ (ap (λ (s : Settings). answer_of p s (past_of t)) set ∙ ap (λ (h : List Entry). answer_of p (settings_for w p) (reverse h)) (sym entries))));
     }

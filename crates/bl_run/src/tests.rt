@@ -591,7 +591,10 @@ fn greatest_values_are_answered(rt: HostRuntime) -> Result<(), Fail> {
 fn gaps_are_told(rt: HostRuntime) -> Result<(), Fail> {
     let alloc = rt.alloc();
     let only: Edit = (11, b"    RHS       R1                50");
-    let tenths: Edit = (11, b"    RHS       R1                50\n    RHS       COST            -0.5");
+    let tenths: Edit = (
+        11,
+        b"    RHS       R1                50\n    RHS       COST            -0.5",
+    );
     let within = b"status within\nbound 47\nobjective 50\ncol X 10\ncol Y 10\nend\n".as_slice();
     let none: [Edit; 5] = [
         (4, b" E  R1"),
