@@ -185,18 +185,17 @@ fn problems_are_made_from_numbers(rt: HostRuntime) -> Result<(), Fail> {
     assert!(rt; problem.scale() == 0 && problem.offset() == 0 && problem.sense() == Sense::Min);
     let columns = problem.columns();
     assert_eq!(rt; columns.len(), 2);
-    for (j, cost, name) in [(0usize, -39, b"C0001".as_slice()), (1, -59, b"C0002")] {
-        assert!(rt; columns[j].low == 0 && columns[j].high == 1 && columns[j].cost == cost);
-        assert!(rt; columns[j].name.bytes() == name);
-    }
+    assert!(rt; columns[0].low == 0 && columns[0].high == 1 && columns[0].cost == -39);
+    assert!(rt; columns[0].name.bytes() == b"C0001".as_slice());
+    assert!(rt; columns[1].low == 0 && columns[1].high == 1 && columns[1].cost == -59);
+    assert!(rt; columns[1].name.bytes() == b"C0002".as_slice());
     let rows = problem.rows();
     assert_eq!(rt; rows.len(), 1);
     assert!(rt; rows[0].name.bytes() == b"R0001".as_slice());
     assert!(rt; rows[0].low.is_none() && rows[0].high == Some(4));
     let terms = rows[0].terms.as_slice();
     assert_eq!(rt; terms.len(), 2);
-    for (k, coefficient) in [(0usize, 3), (1, 5)] {
-        assert!(rt; terms[k].column as usize == k && terms[k].coefficient == coefficient);
-    }
+    assert!(rt; terms[0].column == 0 && terms[0].coefficient == 3);
+    assert!(rt; terms[1].column == 1 && terms[1].coefficient == 5);
     Ok(())
 }
