@@ -1,9 +1,9 @@
 -- Reads and writes one after another, over bytes that may be known.
-use Rattle.std.proofs.Common.{◌≡◌, ℕ, subst, ◌+◌, List, [], ◌∷◌, ◌++◌, length, take, drop, Some, None, refl, sym, ◌∙◌, ap, arith, append_assoc, length-append}
+use Rattle.std.proofs.Common.{◌≡◌, ℕ, subst, ◌+◌, ◌≤◌, List, [], ◌∷◌, ◌++◌, length, take, drop, Some, None, refl, sym, ◌∙◌, ap, arith, append_assoc, length-append}
 use Rattle.std.specs.declared.option.Option.{Option}
 use Rattle.std.specs.Io.KnownBytes.{Consumes, Appends, Keeps}
 use Rattle.std.proofs.lemmas.List.{append-nil, take_at, drop-drop, drop_at, take-append-drop}
-use Rattle.bl_io.specs.Streams.{Takes}
+use Rattle.bl_io.specs.Streams.{Takes, TakesAtMost}
 
 pub Appends-none : (a : Option (List ℕ)) → Appends a a []
 Appends-none None = tt
@@ -42,6 +42,20 @@ Takes-consumed None b xs n size first = tt
 Takes-consumed (Some s) None xs n size first = absurd first
 Takes-consumed (Some s) (Some t) xs n size first =
     (omega (arith, ap length first, length-append xs t, size), sym (ap (drop n) first ∙ drop_at xs t n size))
+
+-- bytes that were consumed, and then some that were taken
+pub Takes-more : (a b c : Option (List ℕ)) (xs : List ℕ) (n m : ℕ) → length xs + n ≡ m → Consumes a b xs → Takes b c n → Takes a c m
+Takes-more None b c xs n m size first second = tt
+Takes-more (Some s) None c xs n m size first second = absurd first
+Takes-more (Some s) (Some t) None xs n m size first second = absurd second
+Takes-more (Some s) (Some t) (Some u) xs n m size first second = (
+  omega (arith, ap length first, length-append xs t, size, second.0),
+  second.1 ∙ sym (ap (drop m) first ∙ ap (λ (k : ℕ). drop k (xs ++ t)) (sym size) ∙ sym (drop-drop n (length xs) (xs ++ t)) ∙ ap (drop n) (drop_at xs t (length xs) refl)),
+)
+
+pub TakesAtMost-more : (a b c : Option (List ℕ)) (xs : List ℕ) (n m : ℕ) → length xs + n ≤ m → Consumes a b xs → TakesAtMost b c n → TakesAtMost a c m
+TakesAtMost-more a b c xs n m size first second =
+    (length xs + second.0, omega (arith, size, second.1), Takes-more a b c xs second.0 (length xs + second.0) refl first second.2)
 
 -- what a read from the place t put in front of a buffer was next
 pub next_bytes : (bytes copied rest : List ℕ) (t n : ℕ) → copied ≡ take n (drop t bytes) → length copied ≡ n → drop t bytes ≡ take n (copied ++ rest) ++ drop (t + n) bytes

@@ -33,6 +33,11 @@ Takes (Some xs) (Some ys) n = (n ≤ length xs) × (ys ≡ drop n xs)
 abbrev pub TakesAtMost : Option (List ℕ) → Option (List ℕ) → ℕ → Type 0
 TakesAtMost before now limit = (n : ℕ) × (n ≤ limit) × Takes before now n
 
+-- the source did not fail, and no more than the limit was taken
+pub record ReadsWithin (before now : Option (List ℕ)) (faults faults' limit : ℕ) : Type 0 where
+  pub taken : TakesAtMost before now limit
+  pub count : faults' ≡ faults
+
 -- a prefix of the text was appended
 abbrev pub AppendsPrefix : Option (List ℕ) → Option (List ℕ) → List ℕ → Type 0
 AppendsPrefix before now text = (n : ℕ) × (n ≤ length text) × Appends before now (take n text)

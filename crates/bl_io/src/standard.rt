@@ -1,5 +1,6 @@
-//! Std's readers and writers as sources and sinks. They tell no bytes, and count the errors that they get.
-ghost use Rattle.std.specs.Prelude.{None};
+//! Std's readers and writers as sources and sinks, which tell the bytes that those tell, and count the errors
+//! that they get.
+ghost use Rattle.std.specs.Prelude.{◌≡◌};
 
 use crate::{Failed, Sink, Source};
 use std::io::{Read, Write};
@@ -13,13 +14,15 @@ pub struct StdSource<R> {
 
 impl<R: Read> StdSource<R> {
     /// The source over a reader, with no faults yet.
-    pub fn new(reader: R) -> StdSource<R> {
+    pub fn new(reader: R) -> StdSource<R>
+        ensures { result ≡ record { reader = reader; faults = 0 } }
+    {
         StdSource { reader, faults: 0 }
     }
 }
 
 impl<R: Read> Source for StdSource<R> {
-    ghost left = { λ s. None };
+    ghost left = { λ s. R.remaining s.reader };
 
     ghost faults = { λ s. s.faults };
 
@@ -43,13 +46,15 @@ pub struct StdSink<W> {
 
 impl<W: Write> StdSink<W> {
     /// The sink over a writer, with no faults yet.
-    pub fn new(writer: W) -> StdSink<W> {
+    pub fn new(writer: W) -> StdSink<W>
+        ensures { result ≡ record { writer = writer; faults = 0 } }
+    {
         StdSink { writer, faults: 0 }
     }
 }
 
 impl<W: Write> Sink for StdSink<W> {
-    ghost kept = { λ s. None };
+    ghost kept = { λ s. W.contents s.writer };
 
     ghost faults = { λ s. s.faults };
 
