@@ -51,6 +51,7 @@ module _ {V E B : Type 0} (by : E → ℕ) (told : V → List E) (base : V → B
   stands_other : (accounts accounts' : List A) (history : List E) (j : ℕ) (a : A) → j ≢ 0 → StandsIn accounts history j a → StandsIn accounts' history j a
   stands_other accounts accounts' history j a other r = record {
     based = r.based;
+    met_based = r.met_based;
     begun = r.begun;
     reaches = r.reaches;
     since = r.since;
@@ -80,6 +81,7 @@ module _ {V E B : Type 0} (by : E → ℕ) (told : V → List E) (base : V → B
       (λ (p : (j ≡ length before) × (new ≡ b)). absurd (true≢false (sym over ∙ ap is_spent (sym p.1)))) (at_push before new b j there) in
       let kept_stands : StandsIn all r.history i kept = record {
         based = t.based;
+        met_based = t.met_based;
         begun = t.begun;
         reaches = t.reaches;
         since = t.since;
@@ -100,6 +102,7 @@ module _ {V E B : Type 0} (by : E → ℕ) (told : V → List E) (base : V → B
       } in
       let new_stands : StandsIn all r.history (length before) new = record {
         based = t.based;
+        met_based = t.based;
         begun = t.begun;
         reaches = t.reaches;
         since = (a.view.seen, refl);
@@ -179,6 +182,7 @@ module _ {V E B : Type 0} (by : E → ℕ) (told : V → List E) (base : V → B
       let on_left = prefixes a.view.seen list t.rest far.rest (sym t.whole ∙ far.whole) far.left in let on_right = prefixes b.view.seen list o.rest far.rest (sym o.whole ∙ far.whole) far.right in
       let own = entries_by-longer by i a.view.mine a.view.seen t.rest list far.rest (sym t.whole ∙ far.whole) far.left t.own t.own_past in let reaches = t.reaches in let wider = far.left in record {
         based = t.based;
+        met_based = o.based;
         begun = t.begun;
         reaches = omega arith;
         since = (on_left.0, on_left.1);

@@ -86,6 +86,7 @@ module _ {V E B : Type 0} (by : E → ℕ) (told : V → List E) (base : V → B
       → is_spent w ≡ false → j ≢ i → history' ≡ history ++ es → All (λ e. by e ≡ i) es → Stands by told base value accounts history j a → Stands by told base value (set accounts i w) history' j a
   Stands-beside accounts history history' es i u w j a at stood stands apart grown own r = record {
     based = r.based;
+    met_based = r.met_based;
     begun = r.begun;
     reaches = r.reaches;
     since = r.since;
@@ -106,6 +107,7 @@ module _ {V E B : Type 0} (by : E → ℕ) (told : V → List E) (base : V → B
       → Stands by told base value accounts history i u → Stands by told base value (set accounts i (record u { stage = st; found = found })) history i (record u { stage = st; found = found })
   Stands-stage accounts history i u st found at stood stands r = let w : Account E B = record u { stage = st; found = found } in record {
     based = r.based;
+    met_based = r.met_based;
     begun = r.begun;
     reaches = r.reaches;
     since = r.since;

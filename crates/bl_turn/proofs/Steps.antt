@@ -1,5 +1,5 @@
 -- Each step on a word keeps the rule, and tells what its play says.
-use Rattle.std.proofs.Common.{◌≡◌, ◌≢◌, ◌⊎◌, ℕ, zero, suc, ◌+◌, ◌%◌, ◌^◌, ◌<◌, ◌≤◌, eqb, true, false, List, [], ◌∷◌, ◌++◌, length, get_or, set, drop, All, Any, Some, refl, sym, ap, ◌∙◌, subst, ⊎_elim, inl, inr, arith, append-nil, append_assoc, length-append, length-set, get_or-set_other, get_or-set_same, true≢false, le_refl, eq-eqb, ne_eqb}
+use Rattle.std.proofs.Common.{◌≡◌, ◌≢◌, ◌⊎◌, ℕ, zero, suc, ◌+◌, ◌-◌, ◌%◌, ◌^◌, ◌<◌, ◌≤◌, eqb, true, false, List, [], ◌∷◌, ◌++◌, length, get_or, set, drop, All, Any, Some, refl, sym, ap, ◌∙◌, subst, ⊎_elim, inl, inr, arith, append-nil, append_assoc, length-append, length-set, get_or-set_other, get_or-set_same, true≢false, le_refl, eq-eqb, ne_eqb}
 use mathlib.Core.Option.{some, none, some-injective, some-ne-none}
 use mathlib.Core.Option as maybe
 use mathlib.Core.Logic.{dite}
@@ -26,6 +26,10 @@ use Rattle.bl_turn.specs.Plays.{Settled, Enters, Shows, Looks, Leaves}
 use Rattle.bl_turn.proofs.Lists.{place_inside, All-append_left, All-append_right}
 use Rattle.bl_turn.proofs.EntryLemmas.{entries_by-none, entries_by-same, NoneBy-nil, FromOneTo-parts}
 use Rattle.bl_turn.proofs.Standing.{holds_turn, idle_at, each_beside, not_ended, Leads-set, longest_set, Stands-beside, Stands-stage}
+
+-- the low 32 bits of a number modulo 2^64
+pub low_of_low : (count n : ℕ) → count ≡ n % 2 ^ 64 → count % 2 ^ 32 ≡ n % 2 ^ 32
+low_of_low count n is = omega arith
 
 mod-add-mod : (a k m : ℕ) → ((a % m) + k) % m ≡ (a + k) % m
 mod-add-mod a k m = add-mod (a % m) k m ∙ (ap (λ z. (z + k % m) % m) (mod-mod a m) ∙ sym (add-mod a k m))
@@ -66,6 +70,7 @@ module _ {V E B : Type 0} (by : E → ℕ) (told : V → List E) (base : V → B
     at = tt;
     stands = λ _. record {
       based = refl;
+      met_based = refl;
       begun = refl;
       reaches = le_refl (length (told value));
       since = (told value, refl);
@@ -134,6 +139,7 @@ module _ {V E B : Type 0} (by : E → ℕ) (told : V → List E) (base : V → B
   settled : (s : State (Slot V) A) (r : Keeps s) (j : ℕ) (a : A) → StandsIn s.views r.history j a → Settled by a
   settled s r j a t = record {
     own = ap (λ n. entries_by by n a.view.seen) t.numbered ∙ t.own;
+    same_base = t.met_based ∙ sym t.based;
     reaches = t.reaches;
     since = t.since;
     with_met = t.with_met;
@@ -228,6 +234,7 @@ module _ {V E B : Type 0} (by : E → ℕ) (told : V → List E) (base : V → B
       let further : (beginning : List E) → BeginsWith u.view.seen beginning → BeginsWith list beginning =
       λ (beginning : List E) (b : BeginsWith u.view.seen beginning). (b.0 ++ (t.rest ++ es), now ∙ (ap (λ l. l ++ es) (t.whole ∙ ap (λ l. l ++ t.rest) b.1) ∙ (ap (λ l. l ++ es) (append_assoc beginning b.0 t.rest) ∙ (append_assoc beginning (b.0 ++ t.rest) es ∙ ap (λ l. beginning ++ l) (append_assoc b.0 t.rest es))))) in record {
         based = t.based;
+        met_based = t.met_based;
         begun = t.begun;
         reaches = omega arith;
         since = further u.before t.since;
@@ -273,6 +280,11 @@ module _ {V E B : Type 0} (by : E → ℕ) (told : V → List E) (base : V → B
             });
       }
 
+  -- count is the number of entries since the lock was made
+  counts : (s : State (Slot V) A) (r : Keeps s) (i : ℕ) (u : A) → u.found ≡ r.history → StandsIn s.views r.history i u → get_or s.words 1 0 ≡ (length u.found - u.first) % 2 ^ 64
+  counts s r i u whole t = let begun = t.begun in let long = r.long in let size : length u.found ≡ length r.history = ap length whole in
+      let since : r.added ≡ length u.found - u.first = omega arith in r.counted ∙ ap (λ (n : ℕ). n % 2 ^ 64) since
+
   abbrev noted_or : Snapshot V → List (ℕ × Slot V) → Snapshot V
   noted_or d [] = d
   noted_or d ((k, Noted x) ∷ cs) = x
@@ -288,14 +300,15 @@ module _ {V E B : Type 0} (by : E → ℕ) (told : V → List E) (base : V → B
         keeps,
         tt,
         adds s r i k m.0 es (told x.value) at stage (goes ∙ ap (λ (b : A). b.found ++ es) (sym same)) (subst (λ (b : A). All (λ e. by e ≡ b.view.number) es) (sym same) own) count,
-        λ y noted. (ap (λ (z : Snapshot V). (after_show by m.0 (told z.value), m.1)) (ap (noted_or x) (sym carries ∙ noted)), goes_on s r i m.0 m.0.found mine.2 (known.stands stood)),
+        λ y noted. (ap (λ (z : Snapshot V). (after_show by m.0 (told z.value), m.1)) (ap (noted_or x) (sym carries ∙ noted)), goes_on s r i m.0 m.0.found mine.2 (known.stands stood), counts s r i m.0 mine.2 (known.stands stood)),
       )
 
   -- what the seat is after such a step
-  pub shown : (m m' : Held) (a : A) (x : Snapshot V) (v : V) → m ≡ (a, (0, Noted x) ∷ []) → x.value ≡ v → Shows by told base (step 0 0 0 0 none) m 0 m'
-      → (m'.0 ≡ after_show by a (told v)) × ((n : Snapshot V) × (m'.1 ≡ (0, Noted n) ∷ [])) × GoesOn by a.view a.found
-  shown m m' a x v now note did = let told_now = did x (ap (λ (z : Held). z.1) now) in (
+  pub shown : (m m' : Held) (a : A) (x : Snapshot V) (v : V) (count : ℕ) → m ≡ (a, (0, Noted x) ∷ []) → x.value ≡ v → Shows by told base (step 0 0 0 0 none) m count m'
+      → (m'.0 ≡ after_show by a (told v)) × ((n : Snapshot V) × (m'.1 ≡ (0, Noted n) ∷ [])) × GoesOn by a.view a.found × (count ≡ (length a.found - a.first) % 2 ^ 64)
+  shown m m' a x v count now note did = let told_now = did x (ap (λ (z : Held). z.1) now) in (
     ap (λ (z : Held). z.0) told_now.0 ∙ (λ i. after_show by ((now i).0) (told (note i))),
     (x, ap (λ (z : Held). z.1) told_now.0 ∙ ap (λ (z : Held). z.1) now),
     subst (λ (z : Held). GoesOn by z.0.view z.0.found) now told_now.1,
+    subst (λ (z : Held). count ≡ (length z.0.found - z.0.first) % 2 ^ 64) now told_now.2,
   )

@@ -35,8 +35,9 @@ module _ {E B : Type 0} (by : E → ℕ) where
 module _ {V E B : Type 0} (by : E → ℕ) (told : V → List E) (base : V → B) (value : V) where
   -- the seat j was not joined
   pub record Stands (accounts : List (Account E B)) (history : List E) (j : ℕ) (a : Account E B) : Type 0 where
-    -- it has the lock's base and first length, and its place for a number
+    -- it has the lock's base, as the seat of its last join had, and the lock's first length, and its place for a number
     pub based : a.view.base ≡ Some (base value)
+    pub met_based : a.met_base ≡ Some (base value)
     pub begun : a.first ≡ length (told value)
     pub numbered : a.view.number ≡ j
     -- it has seen a beginning of the history, which its last join did not shorten

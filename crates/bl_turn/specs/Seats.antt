@@ -35,6 +35,10 @@ module _ {V E B : Type 0} {g : Ghosts V E B} where
   abbrev pub ended : Seat V E B g → List (ℕ × List E)
   ended p = (view_of p).ended
 
+  -- the length of the history when its lock was made
+  abbrev pub length_at_start : Seat V E B g → ℕ
+  length_at_start p = p.place.me.0.first
+
   -- it is a seat of this lock
   abbrev pub IsOf : Turn V E B → Seat V E B g → Type 0
   IsOf t p = p.place.table_id ≡ t.board.shared.table_id

@@ -13,10 +13,10 @@ pub struct Held<'a, V: Told> {
 }
 
 impl<'a, V: Told> Held<'a, V> {
-    ghost use Rattle.std.specs.Prelude.{◌≡◌, [], ◌∷◌, ◌++◌, Some};
+    ghost use Rattle.std.specs.Prelude.{◌≡◌, ◌-◌, ◌%◌, ◌^◌, [], ◌∷◌, ◌++◌, length, Some};
     ghost use Rattle.std.specs.Borrow.{sem};
     ghost use Rattle.bl_turn.specs.Views.{committed_view, looked_view, GoesOn};
-    ghost use Rattle.bl_turn.specs.Seats.{view_of, number, seen, base_of, IsAway, SameLock};
+    ghost use Rattle.bl_turn.specs.Seats.{view_of, number, seen, base_of, length_at_start, IsAway, SameLock};
     ghost use Rattle.bl_turn.specs.Turns.{seat_of, value_of, history, IsIn, IsShown, SameBorrow, LendsValue};
 
     /// Lends the lock's value.
@@ -46,7 +46,9 @@ impl<'a, V: Told> Held<'a, V> {
     }
 
     /// Tells the lock of no entry. The value's list is the history that the turn found; the seat has then seen it.
-    pub fn look(&mut self)
+    ///
+    /// The answer is for `Turn::sleep`: how many entries came since the lock was made, modulo 2^32.
+    pub fn look(&mut self) -> u32
         requires turn { IsIn self.old }
         requires same { V.told (value_of self.old) ≡ history self.old }
         requires base { base_of (seat_of self.old) ≡ Some (V.base (value_of self.old)) }
@@ -56,8 +58,9 @@ impl<'a, V: Told> Held<'a, V> {
         ensures history { GoesOn V.by (view_of (seat_of self.old)) (history self.old) }
         ensures seen { seen (seat_of self.new) ≡ V.told (value_of self.old) }
         ensures view { view_of (seat_of self.new) ≡ looked_view (view_of (seat_of self.old)) (history self.old) }
+        ensures count { result ≡ (length (history self.old) - length_at_start (seat_of self.old)) % 2 ^ 32 }
     {
-        self.turn.show(self.seat, &self.value, 0);
+        self.turn.show(self.seat, &self.value, 0)
     }
 
     /// Ends the turn, and puts the value back, whose list is still what the seat has seen.

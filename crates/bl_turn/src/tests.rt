@@ -1,4 +1,4 @@
-//! A list of entries under the lock, in turns of one thread and in threads.
+//! A list of entries under the lock, in turns of one thread and in threads, some of which sleep.
 ghost use Rattle.std.specs.Prelude.{◌≡◌, ◌+◌, [], ◌∷◌, ◌++◌, length, vec_len, All, IfOk, OnErr};
 ghost use Rattle.bl_turn.specs.Seats.{number, given, ended, IsOf, IsAway};
 
@@ -8,6 +8,7 @@ use crate::turn::Turn;
 use std::alloc::{AllocError, AllocFailed, Global};
 use std::process::Abort;
 use std::sync::Wait;
+use std::sync::atomic::Ordering::SeqCst;
 use std::thread;
 use std::thread::Threads;
 
@@ -72,8 +73,8 @@ fn note<R: Wait>(rt: &R, turn: &Turn<Log>, seat: &mut Seat<Log>, n: u32) -> Resu
     }
 }
 
-// A turn that looks, and counts the entries.
-fn count<R: Wait>(rt: &R, turn: &Turn<Log>, seat: &mut Seat<Log>) -> usize
+// A turn that looks, counts the entries, and answers what `sleep` takes too.
+fn count<R: Wait>(rt: &R, turn: &Turn<Log>, seat: &mut Seat<Log>) -> (usize, u32)
     requires seat { IsOf turn.now seat.old × IsAway seat.old }
     ensures seat { IsOf turn.now seat.new × IsAway seat.new }
     ensures number { number seat.new ≡ number seat.old }
@@ -81,9 +82,9 @@ fn count<R: Wait>(rt: &R, turn: &Turn<Log>, seat: &mut Seat<Log>) -> usize
 {
     let mut held = turn.enter(rt, seat);
     let count = held.value().entries.len();
-    held.look();
+    let low = held.look();
     held.leave();
-    count
+    (count, low)
 }
 
 // A turn that adds an entry, or finds so many.
@@ -101,7 +102,7 @@ fn take_turn<R: Wait + Abort>(
 {
     match adds {
         Some(n) => assert!(rt; note(rt, turn, seat, n).is_ok(), "memory"),
-        None => assert_eq!(rt; count(rt, turn, seat), so_far),
+        None => assert_eq!(rt; count(rt, turn, seat).0, so_far),
     }
 }
 
@@ -169,7 +170,7 @@ fn turns_stand_in_their_order(rt: HostRuntime) {
 
 const THREADS: usize = 4;
 
-const EACH: u32 = 250;
+const EACH: u32 = 100_000;
 
 // Adds so many entries, with the numbers from 0.
 fn note_all<R: Wait + Abort>(rt: &R, turn: &Turn<Log>, seat: &mut Seat<Log>)
@@ -208,6 +209,53 @@ fn work<R: Threads + Wait + Abort + Sync>(rt: &R, turn: &Turn<Log>, seats: &mut 
     thread::for_each_mut(rt, seats, THREADS, &|_, seat| note_all(rt, turn, seat));
 }
 
+// Takes turns and sleeps between them, until there is an entry.
+fn await_entry<R: Wait>(rt: &R, turn: &Turn<Log>, seat: &mut Seat<Log>)
+    requires seat { IsOf turn.now seat.old × IsAway seat.old }
+    ensures seat { IsOf turn.now seat.new × IsAway seat.new }
+{
+    for _ in rt.forever() {
+        let (entries, low) = count(rt, turn, seat);
+        if entries != 0 {
+            return;
+        }
+        turn.sleep(rt, low);
+    }
+    unreachable!()
+}
+
+// Adds an entry once so many threads sleep, and wakes them.
+fn wake_others<R: Wait + Abort>(rt: &R, turn: &Turn<Log>, seat: &mut Seat<Log>, others: u64)
+    requires seat { IsOf turn.now seat.old × IsAway seat.old }
+    ensures seat { IsOf turn.now seat.new × IsAway seat.new }
+{
+    for _ in rt.forever() {
+        if turn.asleep.load(SeqCst) == others {
+            break;
+        }
+        thread::yield_now();
+    }
+    assert!(rt; note(rt, turn, seat, 0).is_ok(), "memory");
+    turn.wake();
+}
+
+// The first seat's thread wakes those of the others.
+fn sleep_all<R: Threads + Wait + Abort + Sync>(rt: &R, turn: &Turn<Log>, seats: &mut [Seat<Log>])
+    requires seats { All (λ s. IsOf turn.now s × IsAway s) seats.old }
+    ensures seats { All (λ s. IsOf turn.now s × IsAway s) seats.new }
+    ensures count { length seats.new ≡ length seats.old }
+{
+    thread::for_each_mut(
+        rt,
+        seats,
+        THREADS,
+        &|i, seat| match i {
+            0 => wake_others(rt, turn, seat, THREADS as u64 - 1),
+            _ => await_entry(rt, turn, seat),
+        },
+    );
+}
+
 fn join_all(turn: &Turn<Log>, first: &mut Seat<Log>, mut seats: Vec<Seat<Log>>)
     requires seat { IsOf turn.now first.old × IsAway first.old }
     requires view { (number first.old ≡ 0) × (given first.old ≡ vec_len seats) × (ended first.old ≡ []) }
@@ -235,4 +283,24 @@ fn threads_lose_no_entry(rt: HostRuntime) {
         next[at] += 1;
     }
     assert_eq!(rt; next, [0, EACH, EACH, EACH, EACH]);
+}
+
+#[test]
+fn sleepers_wake(rt: HostRuntime) {
+    let (turn, mut first) = lock(&rt, rt.alloc());
+    let mut seats = split_all(&rt, rt.alloc(), &turn, &mut first);
+    sleep_all(&rt, &turn, seats.as_mut_slice());
+    join_all(&turn, &mut first, seats);
+    let log = turn.close(first);
+    assert_eq!(rt; log.entries.len(), 1);
+}
+
+#[test]
+fn entry_before_sleep_keeps_awake(rt: HostRuntime) {
+    let (turn, mut first) = lock(&rt, rt.alloc());
+    let (_, low) = count(&rt, &turn, &mut first);
+    assert!(rt; note(&rt, &turn, &mut first, 0).is_ok(), "memory");
+    turn.sleep(&rt, low);
+    turn.wake();
+    assert_eq!(rt; turn.close(first).entries.len(), 1);
 }

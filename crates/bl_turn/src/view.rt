@@ -40,6 +40,8 @@ pub struct Account<E, B> {
     pub before: LinkedList<E>,
     /// What the other seat of its last join had seen.
     pub met: LinkedList<E>,
+    /// The base of that other seat.
+    pub met_base: Option<B>,
 }
 
 /// The place of the value in the table.

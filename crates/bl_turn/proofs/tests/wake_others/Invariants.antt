@@ -1,0 +1,5 @@
+use Rattle.bl_turn.specs.Seats.{IsOf, IsAway}
+use Rattle.bl_turn.proofs.tests.wake_others.Given as goal
+
+abbrev pub invariant-loop : goal.invariant-loop
+invariant-loop g l = IsOf l.turn l.seat × IsAway l.seat
