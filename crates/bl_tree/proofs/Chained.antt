@@ -29,9 +29,9 @@ use Rattle.bl_journal.proofs.Chains.{chain_of-last, chain_short}
 use Rattle.bl_tree.specs.declared.record.Record.{Record}
 use Rattle.bl_tree.specs.Records.{IsRecordOf, IsStoredOf, AreRecords, AreStored}
 use Rattle.bl_tree.specs.Views.{TreeView, past_of, pieces_of}
-use Rattle.bl_tree.specs.declared.answer.Recoded.{Recoded}
-use Rattle.bl_tree.specs.declared.answer.Recoded.TheVariants.{Gone}
-use Rattle.bl_tree.specs.Answers.{IsBorn, recoded_for, recoded_from}
+use Rattle.bl_tree.specs.declared.answer.Encoding.{Encoding}
+use Rattle.bl_tree.specs.declared.answer.Encoding.TheVariants.{Gone}
+use Rattle.bl_tree.specs.Answers.{IsBorn, encoding_for, encoding_from}
 use Rattle.bl_tree.proofs.Searches.{slice_get-is}
 use Rattle.bl_tree.specs.Chains.{StandsFor}
 
@@ -216,12 +216,12 @@ stands_known p s past id r piece f e = by_state (is_freed (state_of past id)) (s
     by_state true h = cc
     by_state false h = (refl, some_same (stored_of p s past id) piece h)
 
-pub recoded_gone : (t : TreeView) (id : ℕ) (form : Form) → is_freed (state_of (past_of t) id) ≡ true → Gone ≡ recoded_for t id form
-recoded_gone t id form e = sym (cond-true (is_freed (state_of (past_of t) id)) Gone (recoded_from t id (form_of t.problem t.settings (past_of t) id) form) e)
+pub encoding_gone : (t : TreeView) (id : ℕ) (form : Form) → is_freed (state_of (past_of t) id) ≡ true → Gone ≡ encoding_for t id form
+encoding_gone t id form e = sym (cond-true (is_freed (state_of (past_of t) id)) Gone (encoding_from t id (form_of t.problem t.settings (past_of t) id) form) e)
 
-pub recoded_stands : (t : TreeView) (id : ℕ) (old form : Form) (answer : Recoded) → is_freed (state_of (past_of t) id) ≡ false → form_of t.problem t.settings (past_of t) id ≡ old → answer ≡ recoded_from t id old form → answer ≡ recoded_for t id form
-recoded_stands t id old form answer e f g =
-    g ∙ (ap (λ (o : Form). recoded_from t id o form) (sym f) ∙ sym (cond-false (is_freed (state_of (past_of t) id)) Gone (recoded_from t id (form_of t.problem t.settings (past_of t) id) form) e))
+pub encoding_stands : (t : TreeView) (id : ℕ) (old form : Form) (answer : Encoding) → is_freed (state_of (past_of t) id) ≡ false → form_of t.problem t.settings (past_of t) id ≡ old → answer ≡ encoding_from t id old form → answer ≡ encoding_for t id form
+encoding_stands t id old form answer e f g =
+    g ∙ (ap (λ (o : Form). encoding_from t id o form) (sym f) ∙ sym (cond-false (is_freed (state_of (past_of t) id)) Gone (encoding_from t id (form_of t.problem t.settings (past_of t) id) form) e))
 
 pub parent_born : (p : Program) (s : Settings) (past : List Entry) (id : ℕ) → IsLegalPast p s past → id < length (nodes_of p past) → IfSome (node_at p past id).parent (λ q. q < length (nodes_of p past))
 parent_born p s past id legal born = by_parent (node_at p past id).parent (lines p s past legal id born)

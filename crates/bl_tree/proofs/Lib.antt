@@ -3,6 +3,7 @@ mod Sets
 pub mod Kept
 pub mod Puts
 pub mod Boxed
+pub mod Boxes
 pub mod Handed
 pub mod Counted
 pub mod Standing
@@ -21,5 +22,5 @@ mod Candidates
 mod Covers
 mod Chained
 mod Trees
-mod Recodings
-pub mod Covering
+mod Encodings
+pub mod Jobs

@@ -19,7 +19,7 @@ use Rattle.bl_journal.proofs.Growth.{reverse-push}
 use Rattle.bl_tree.proofs.Sets.{records_set, count_by-set}
 use Rattle.bl_tree.proofs.Stored.{stored_encoded}
 use Rattle.bl_tree.proofs.Chained.{not_freed, parent_born}
-use Rattle.bl_tree.proofs.Recodings.{encoded_is}
+use Rattle.bl_tree.proofs.Encodings.{encoded_is}
 use Rattle.bl_tree.proofs.Queues.{all_same, all_thinned, all_like, all_freed}
 use Rattle.bl_pool.specs.Views.{PoolView, key_in}
 use Rattle.bl_tree.proofs.Standing.{stands_more}

@@ -9,8 +9,10 @@ use Rattle.bl_journal.specs.declared.outcome.Next.TheVariants.{Shut, Split}
 use Rattle.bl_tree.specs.declared.answer.Born.{Born}
 use Rattle.bl_tree.specs.declared.answer.Best.{Best}
 use Rattle.bl_tree.specs.declared.answer.Glance.{Glance}
-use Rattle.bl_tree.specs.declared.answer.Recoded.{Recoded}
-use Rattle.bl_tree.specs.declared.answer.Recoded.TheVariants.{Made, Same, Fixed, Gone}
+use Rattle.bl_tree.specs.declared.answer.Encoding.{Encoding}
+use Rattle.bl_tree.specs.declared.answer.Encoding.TheVariants.{Open, Same, Fixed, Gone}
+use Rattle.bl_tree.specs.declared.plan.Installed.{Installed}
+use Rattle.bl_tree.specs.declared.plan.Installed.TheVariants.{Made as InstalledMade, Same as InstalledSame, Gone as InstalledGone}
 use Rattle.bl_tree.specs.declared.answer.Answer.{Answer}
 use Rattle.bl_tree.specs.declared.answer.Answer.TheVariants.{Optimal, Within, Infeasible, Bounded}
 use Rattle.bl_journal.specs.Births.{nodes_of, node_at}
@@ -71,19 +73,38 @@ is_freed_if t None = false
 is_freed_if t (Some id) = is_freed (state_of (past_of t) id)
 
 -- a relative form is asked of an explicit node
-abbrev pub related_for : TreeView → ℕ → Recoded
+abbrev pub related_for : TreeView → ℕ → Encoding
 related_for t id =
     if is_spanned t.problem t.settings (past_of t) id
     then Fixed
-    else (if is_freed_if t (node_at t.problem (past_of t) id).parent then Gone else Made)
+    else (if is_freed_if t (node_at t.problem (past_of t) id).parent then Gone else Open)
 
-abbrev pub recoded_from : TreeView → ℕ → Form → Form → Recoded
-recoded_from t id Explicit Explicit = Same
-recoded_from t id Relative Relative = Same
-recoded_from t id Relative Explicit = Made
-recoded_from t id Explicit Relative = related_for t id
+abbrev pub encoding_from : TreeView → ℕ → Form → Form → Encoding
+encoding_from t id Explicit Explicit = Same
+encoding_from t id Relative Relative = Same
+encoding_from t id Relative Explicit = Open
+encoding_from t id Explicit Relative = related_for t id
 
--- Gone where the node is freed; else Same where it has the form; else Fixed where Relative is asked and the span divides its depth; else Gone where Relative is asked and its parent is freed; else Made
-abbrev pub recoded_for : TreeView → ℕ → Form → Recoded
-recoded_for t id form =
-    if is_freed (state_of (past_of t) id) then Gone else recoded_from t id (form_of t.problem t.settings (past_of t) id) form
+-- Gone where the node is freed; else Same where it has the form; else Fixed where Relative is asked and the span divides its depth; else Gone where Relative is asked and its parent is freed; else Open
+abbrev pub encoding_for : TreeView → ℕ → Form → Encoding
+encoding_for t id form =
+    if is_freed (state_of (past_of t) id) then Gone else encoding_from t id (form_of t.problem t.settings (past_of t) id) form
+
+-- where the node is not freed
+abbrev pub installed_from : TreeView → ℕ → Form → Form → Installed
+installed_from t id Explicit Explicit = InstalledSame
+installed_from t id Relative Relative = InstalledSame
+installed_from t id Relative Explicit = InstalledMade
+installed_from t id Explicit Relative = if is_freed_if t (node_at t.problem (past_of t) id).parent then InstalledGone else InstalledMade
+
+-- Gone where the node is freed, or the form is relative and its parent is freed; else Same where it has the form; else Made
+abbrev pub installed_for : TreeView → ℕ → Form → Installed
+installed_for t id form =
+    if is_freed (state_of (past_of t) id) then InstalledGone else installed_from t id (form_of t.problem t.settings (past_of t) id) form
+
+-- the same, from how the node stands to the form
+abbrev pub installed_as : Encoding → Installed
+installed_as Open = InstalledMade
+installed_as Same = InstalledSame
+installed_as Fixed = InstalledGone
+installed_as Gone = InstalledGone

@@ -4,14 +4,18 @@ use Rattle.bl_desc.specs.declared.desc.Form.{Form}
 use Rattle.bl_journal.specs.declared.entry.Entry.TheVariants.{Take, Encode, Free}
 use Rattle.bl_tree.specs.declared.answer.Freed.{Freed}
 use Rattle.bl_tree.specs.declared.answer.Freed.TheVariants.{Chain, Nothing}
-use Rattle.bl_tree.specs.declared.answer.Recoded.{Recoded}
-use Rattle.bl_tree.specs.declared.answer.Recoded.TheVariants.{Made, Same, Fixed, Gone}
+use Rattle.bl_tree.specs.declared.answer.Encoding.TheVariants.{Open, Same, Fixed, Gone}
+use Rattle.bl_tree.specs.declared.plan.Planned.{Planned}
+use Rattle.bl_tree.specs.declared.plan.Planned.TheVariants.{Gone as PlannedGone, Same as PlannedSame, Fixed as PlannedFixed, Chain as PlannedChain}
+use Rattle.bl_tree.specs.declared.plan.Installed.{Installed}
+use Rattle.bl_tree.specs.declared.plan.Installed.TheVariants.{Made as InstalledMade, Same as InstalledSame, Gone as InstalledGone}
 use Rattle.bl_tree.specs.declared.lease.Taken.{Taken}
 use Rattle.bl_tree.specs.declared.lease.Taken.TheVariants.{Node, Idle, Done, Spent}
 use Rattle.bl_journal.specs.Replies.{take_reply, gives, idle, done, spent}
 use Rattle.bl_journal.specs.Pieces.{chain_of}
 use Rattle.bl_journal.specs.Freeing.{IsFreeChain, HasNothingToFree, standing_of}
-use Rattle.bl_tree.specs.Answers.{recoded_for}
+use Rattle.bl_tree.specs.Answers.{encoding_for, installed_for}
+use Rattle.bl_tree.specs.Jobs.{PlanView, JobView, IsPlanOf, plan_of}
 use Rattle.bl_tree.specs.Views.{TreeView, past_of, extended, LeaseView, IsLeaseOf}
 
 -- a lease that was just taken
@@ -34,11 +38,21 @@ Frees old seat (Chain ids) new =
     × (standing_of new.problem (past_of new) < standing_of old.problem (past_of old))
 Frees old seat Nothing new = HasNothingToFree old.problem old.settings (past_of old) × (new ≡ old)
 
-abbrev pub recoded : TreeView → ℕ → ℕ → Form → Recoded → TreeView
-recoded t seat id form Made = extended t (Encode seat id form)
-recoded t seat id form Same = t
-recoded t seat id form Fixed = t
-recoded t seat id form Gone = t
+-- the plan of the tree to store this node in this form
+pub record IsPlanFor (t : TreeView) (id : ℕ) (form : Form) (plan : PlanView) : Type 0 where
+  pub is : plan ≡ plan_of t id form
+  pub of_tree : IsPlanOf t plan
 
-abbrev pub Recodes : TreeView → ℕ → ℕ → Form → Recoded → TreeView → Type 0
-Recodes old seat id form answer new = (answer ≡ recoded_for old id form) × (new ≡ recoded old seat id form answer)
+abbrev pub Plans : TreeView → ℕ → Form → Planned → Type 0
+Plans t id form PlannedGone = encoding_for t id form ≡ Gone
+Plans t id form PlannedSame = encoding_for t id form ≡ Same
+Plans t id form PlannedFixed = encoding_for t id form ≡ Fixed
+Plans t id form (PlannedChain plan) = (encoding_for t id form ≡ Open) × IsPlanFor t id form plan
+
+abbrev pub installed : TreeView → ℕ → JobView → Installed → TreeView
+installed t seat job InstalledMade = extended t (Encode seat job.id job.form)
+installed t seat job InstalledSame = t
+installed t seat job InstalledGone = t
+
+abbrev pub Installs : TreeView → ℕ → JobView → Installed → TreeView → Type 0
+Installs old seat job answer new = (answer ≡ installed_for old job.id job.form) × (new ≡ installed old seat job answer)

@@ -11,3 +11,12 @@ pub record StandsFor (chain : Chain Cut) (d : Desc Cut) : Type 0 where
   pub whole : IsWhole chain.top
   pub fits : FitInOrder chain.changes chain.top
   pub gives : described chain.changes chain.top ≡ d
+
+-- the changes of the chain fit in order
+pub record IsApplicable (chain : Chain Cut) : Type 0 where
+  pub whole : IsWhole chain.top
+  pub fits : FitInOrder chain.changes chain.top
+
+-- the description that a chain stands for
+abbrev pub described_by : Chain Cut → Desc Cut
+described_by chain = described chain.changes chain.top

@@ -3,3 +3,4 @@ pub mod Records
 pub mod Calls
 pub mod Answers
 pub mod Chains
+pub mod Jobs

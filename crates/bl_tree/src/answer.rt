@@ -56,15 +56,15 @@ pub enum Freed {
     Nothing,
 }
 
-/// What became of the wish to store a node in another form. The cases are looked at in the order Gone, Same, Fixed, Gone, Made.
+/// How a born node stands to a form in which it is to be stored. The cases are looked at in the order Gone, Same, Fixed, Gone, Open.
 #[derive(Clone, Copy, Debug, PartialEq, Eq)]
-pub enum Recoded {
-    /// The node is stored in the form now.
-    Made,
+pub enum Encoding {
+    /// It may be stored so.
+    Open,
     /// It has the form.
     Same,
-    /// A relative form was asked, and the span divides the node's depth.
+    /// The form is relative, and the span divides the node's depth.
     Fixed,
-    /// The node is freed; or a relative form was asked, and its parent is.
+    /// The node is freed; or the form is relative, and its parent is.
     Gone,
 }

@@ -1,8 +1,11 @@
 //! Leases.
 ghost use Rattle.std.specs.Prelude.{◌≡◌, Some};
 ghost use Rattle.bl_journal.specs.Pieces.{rebuilt};
+ghost use Rattle.bl_desc.specs.Changes.{IsWhole};
+ghost use Rattle.bl_rebuild.specs.Chains.{described, FitInOrder};
+ghost use Rattle.bl_tree.specs.Chains.{IsApplicable, described_by};
+ghost use Rattle.bl_tree.specs.Views.{pieces_of};
 
-use bl_desc::Desc;
 use bl_problem::Cut;
 use bl_rebuild::Chain;
 use std::marker::Model;
@@ -14,20 +17,17 @@ pub struct Lease {
     pub low: i128,
     pub cutoff: Option<i128>,
     pub chain: Chain<Cut>,
-    // What the chain stands for.
-    pub desc: Desc<Cut>,
 }
 
 impl Model for Lease {
-    ghost use Rattle.std.specs.Prelude.{◌≡◌, Some};
-    ghost use Rattle.bl_journal.specs.Pieces.{rebuilt};
     ghost use Rattle.bl_tree.specs.Views.{LeaseView, pieces_of};
+    ghost use Rattle.bl_tree.specs.Chains.{IsApplicable};
 
     ghost Value = { LeaseView };
 
     ghost view = { λ l. record { id = l.id; depth = l.depth; low = l.low; cutoff = l.cutoff; chain = pieces_of l.chain } };
 
-    ghost invariant = { λ l. rebuilt (pieces_of l.chain) ≡ Some l.desc };
+    ghost invariant = { λ l. IsApplicable l.chain };
 }
 
 impl Lease {
@@ -59,11 +59,14 @@ impl Lease {
         self.cutoff
     }
 
-    /// The node's description.
-    pub fn desc(&self) -> &Desc<Cut>
-        ensures { rebuilt self.now.chain ≡ Some result.now }
+    /// The tree's own pieces, shared, that stand for the node's description. `rebuild` makes it of them.
+    pub fn chain(&self) -> &Chain<Cut>
+        ensures pieces { pieces_of result.now ≡ self.now.chain }
+        ensures whole { IsWhole result.now.top }
+        ensures fits { FitInOrder result.now.changes result.now.top }
+        ensures gives { rebuilt self.now.chain ≡ Some (described result.now.changes result.now.top) }
     {
-        &self.desc
+        &self.chain
     }
 }
 
@@ -79,20 +82,20 @@ pub enum Taken {
     Spent,
 }
 
-/// Ends a lease. What is left of it is its node's number and description.
-pub fn parts_of(lease: Lease) -> (u32, Desc<Cut>)
+/// Ends a lease. What is left of it is its node's number and chain.
+pub fn parts_of(lease: Lease) -> (u32, Chain<Cut>)
     ensures id { result.0 ≡ lease.id }
-    ensures desc { rebuilt lease.chain ≡ Some result.1 }
+    ensures chain { IsApplicable result.1 }
+    ensures gives { rebuilt lease.chain ≡ Some (described_by result.1) }
 {
     let Lease {
         id,
         depth: _,
         low: _,
         cutoff: _,
-        chain: _,
-        desc,
+        chain,
     } = lease;
-    (id, desc)
+    (id, chain)
 }
 
 /// Ends a lease. What is left of it is its node's number.

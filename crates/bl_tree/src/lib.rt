@@ -2,21 +2,23 @@
 #![tactic(auto)]
 
 mod answer;
-mod children;
+mod bounds;
 mod freeable;
 mod freeing;
 mod incumbent;
+pub mod laws;
 mod lease;
 mod numbers;
+mod plan;
 mod queue;
 mod record;
 mod records;
 mod root;
 mod search;
-#[cfg(test)]
-mod tests;
 mod tree;
+mod workspace;
 
-pub use answer::{Answer, Best, Born, Freed, Glance, Recoded};
+pub use answer::{Answer, Best, Born, Freed, Glance};
 pub use lease::{Lease, Taken};
+pub use plan::{Installed, Job, Plan, Planned, encode};
 pub use tree::Tree;

@@ -13,7 +13,7 @@ use bl_problem::{Column, Cut, Problem};
 use std::alloc::{AllocError, Global};
 
 /// The columns' own lows.
-fn own_lows(alloc: Global, columns: &[Column]) -> Result<Items<i64>, AllocError>
+pub fn own_lows(alloc: Global, columns: &[Column]) -> Result<Items<i64>, AllocError>
     ensures { IfOk result (λ lows. lows ≡ lows_of columns.now) }
 {
     let mut lows = Items::new(alloc);
@@ -24,7 +24,7 @@ fn own_lows(alloc: Global, columns: &[Column]) -> Result<Items<i64>, AllocError>
 }
 
 /// The columns' own highs.
-fn own_highs(alloc: Global, columns: &[Column]) -> Result<Items<i64>, AllocError>
+pub fn own_highs(alloc: Global, columns: &[Column]) -> Result<Items<i64>, AllocError>
     ensures { IfOk result (λ highs. highs ≡ highs_of columns.now) }
 {
     let mut highs = Items::new(alloc);

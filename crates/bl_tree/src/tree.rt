@@ -2,25 +2,26 @@
 ghost use Rattle.std.specs.Prelude.{◌≡◌, ◌<◌, ◌≤◌, ◌+◌, [], OnErr, IfOk, IfSome, option_copied};
 ghost use Rattle.bl_journal.specs.declared.entry.Entry.TheVariants.{Put};
 
-use crate::answer::{Answer, Best, Born, Freed, Glance, Recoded};
-use crate::children::have_points;
+use crate::answer::{Answer, Best, Born, Encoding, Freed, Glance};
 use crate::freeable::{add, add_if, add_two, first_to_go, refresh};
 use crate::freeing::free_up;
 use crate::incumbent::{answer_from, best_after, found_at, is_better, place_after};
 use crate::lease::{Lease, Taken, number_of, parts_of};
 use crate::numbers::copy_into;
+use crate::plan::{Installed, Job, Plan, Planned, installed_as};
 use crate::queue::{first_if_open, first_open, join_children, join_if, key_of, leave};
 use crate::record::{Record, Stage, new_record};
 use crate::records::{make_room, store};
 use crate::root::{describe_root, root_low, root_record};
 use crate::search::{least_live, piece_of, weight_of_all};
-use bl_desc::{Desc, Form, Piece, between};
+use crate::workspace::Workspace;
+use bl_desc::{Form, Piece};
 use bl_journal::laws::descriptions_are_whole;
 use bl_journal::{Entry, Journal, Next, Order, Outcome, Settings, Step};
 use bl_mods::{Items, Shared};
 use bl_pool::{Key, Pool};
 use bl_problem::{Cut, Problem};
-use bl_rebuild::{Chain, rebuild};
+use bl_rebuild::Chain;
 use std::alloc::{AllocError, Global};
 use std::marker::Model;
 use std::sync::Arc;
@@ -41,7 +42,7 @@ fn put_of(seat: u32, id: u32, found: Option<Items<i64>>, low: i128, next: Step) 
 /// The search tree over a plain list of its nodes. Contracts see its problem, its settings and its history.
 #[derive(Drop)]
 pub struct Tree {
-    problem: Shared<Problem>,
+    problem: Workspace,
     settings: Settings,
     journal: Journal,
     records: Vec<Record>,
@@ -73,18 +74,22 @@ impl Model for Tree {
 
 impl Tree {
     ghost use Rattle.bl_tree.specs.Views.{IsLegalTree, IsLeaseOf, IsPutFor, extended, put_entry};
-    ghost use Rattle.bl_tree.specs.Answers.{IsBorn, born_for, glance_for, stored_for, held_for, found_if, verdict_of, verdict_for, recoded_for, related_for, is_freed_if};
+    ghost use Rattle.bl_tree.specs.Answers.{IsBorn, born_for, glance_for, stored_for, held_for, found_if, verdict_of, verdict_for, encoding_for, related_for, is_freed_if};
     ghost use Rattle.bl_tree.specs.Views.{past_of};
     ghost use Rattle.bl_journal.specs.States.{best_of, cutoff_for};
     ghost use Rattle.bl_journal.specs.Results.{IsTrueFor, live_ids, lows_of};
     ghost use Rattle.bl_tree.specs.Records.{least_if};
     ghost use Rattle.bl_journal.specs.declared.settings.TheConstants.{LARGEST_GAP};
-    ghost use Rattle.std.specs.Prelude.{pos, ◌≤ℤ◌};
-    ghost use Rattle.bl_tree.specs.Calls.{Takes, Frees, Recodes};
-    ghost use Rattle.bl_tree.specs.declared.answer.Recoded.TheVariants.{Made};
+    ghost use Rattle.std.specs.Prelude.{pos, ◌≤ℤ◌, false, Some};
+    ghost use Rattle.bl_tree.specs.Calls.{Takes, Frees, IsPlanFor, Plans, Installs};
+    ghost use Rattle.bl_tree.specs.Jobs.{IsJobOf};
+    ghost use Rattle.bl_tree.specs.declared.answer.Encoding.TheVariants.{Open};
+    ghost use Rattle.bl_desc.specs.declared.desc.Form.TheVariants.{Explicit, Relative};
+    ghost use Rattle.bl_journal.specs.Births.{node_at};
+    ghost use Rattle.bl_journal.specs.States.{is_spanned};
     ghost use Rattle.bl_tree.specs.Chains.{StandsFor};
     ghost use Rattle.bl_tree.specs.Views.{pieces_of};
-    ghost use Rattle.bl_journal.specs.Pieces.{chain_of, piece_in};
+    ghost use Rattle.bl_journal.specs.Pieces.{chain_of};
     ghost use Rattle.bl_journal.specs.Freeing.{first_freeable};
     ghost use Rattle.bl_journal.specs.Replies.{next_of};
     ghost use Rattle.bl_journal.specs.Descriptions.{full_of};
@@ -109,7 +114,7 @@ impl Tree {
         requires gap_few { settings.gap ≤ℤ LARGEST_GAP }
         ensures { IfOk result (λ tree. tree ≡ record { problem = problem.value; settings = settings; history = [] }) }
     {
-        let problem = Shared::from_arc(problem);
+        let problem = Workspace::new(alloc, problem)?;
         let desc = describe_root(alloc, problem.get())?;
         let low = root_low(problem.get(), &desc);
         let mut records = Vec::new(alloc);
@@ -238,7 +243,6 @@ impl Tree {
         }
         let cutoff = self.cutoff();
         let chain = self.chain_to(id)?;
-        let desc = rebuild(&chain)?;
         // Room for this take, and for the put or the back of each lease.
         let leases = self.outs as usize + 1;
         self.journal.reserve(leases + 1)?;
@@ -262,7 +266,6 @@ impl Tree {
             low,
             cutoff,
             chain,
-            desc,
         }))
     }
 
@@ -296,7 +299,7 @@ impl Tree {
         ensures entry { self.new ≡ extended self.old (put_entry seat lease.id outcome) }
         ensures born { result ≡ born_for self.old outcome.next }
     {
-        let (id, desc) = parts_of(lease);
+        let (id, chain) = parts_of(lease);
         let Outcome { found, low, next } = outcome;
         let problem = self.problem.get();
         let now = self.journal.len();
@@ -319,7 +322,9 @@ impl Tree {
                 left,
                 right,
             } => {
-                let (left_open, right_open) = have_points(desc, common.get(), column as usize, at);
+                let (left_open, right_open) = self
+                    .problem
+                    .have_points(&chain, common.get(), column as usize, at);
                 let count = self.records.len() as u32;
                 let parent = &mut self.records[id as usize];
                 parent.stage = Stage::Parted;
@@ -374,92 +379,124 @@ impl Tree {
         }
     }
 
-    // What an encoding would answer.
-    fn recoding(&self, id: u32, form: Form) -> Recoded
+    // How a node stands to a form.
+    fn encoding(&self, id: u32, form: Form) -> Encoding
         requires { IsBorn self.now id }
-        ensures { result ≡ recoded_for self.now id form }
+        ensures { result ≡ encoding_for self.now id form }
     {
         let record = &self.records[id as usize];
         let Some(piece) = &record.piece else {
-            return Recoded::Gone;
+            return Encoding::Gone;
         };
         match piece {
             Piece::Explicit(_) => match form {
-                Form::Explicit => Recoded::Same,
+                Form::Explicit => Encoding::Same,
                 Form::Relative => self.relating(id),
             },
             Piece::Relative(_) => match form {
-                Form::Explicit => Recoded::Made,
-                Form::Relative => Recoded::Same,
+                Form::Explicit => Encoding::Open,
+                Form::Relative => Encoding::Same,
             },
         }
     }
 
-    // What an encoding of an explicit node as a relative one would answer.
-    fn relating(&self, id: u32) -> Recoded
+    // How an explicit node stands to the relative form.
+    fn relating(&self, id: u32) -> Encoding
         requires { IsBorn self.now id }
         ensures { result ≡ related_for self.now id }
     {
         let record = &self.records[id as usize];
         if record.depth % self.settings.span == 0 {
-            Recoded::Fixed
+            Encoding::Fixed
         } else if self.is_gone(record.parent) {
-            Recoded::Gone
+            Encoding::Gone
         } else {
-            Recoded::Made
+            Encoding::Open
         }
     }
 
-    // The description of a node that is not freed.
-    fn description_of(&self, id: u32) -> Result<Desc<Cut>, AllocError>
+    // The plan to store a node whole.
+    fn whole_plan(&self, id: u32) -> Result<Plan, AllocError>
         requires born { IsBorn self.now id }
         requires stands { state_of (past_of self.now) id ≢ freed }
-        ensures { IfOk result (λ desc. desc ≡ full_of self.now.problem (past_of self.now) id) }
+        ensures { IfOk result (λ plan. IsPlanFor self.now id Explicit plan) }
     {
-        rebuild(&self.chain_to(id)?)
+        let chain = self.chain_to(id)?;
+        Ok(Plan {
+            id,
+            chain,
+            above: None,
+        })
     }
 
-    // The node in the form.
-    fn encoded(&self, id: u32, form: Form) -> Result<Piece<Cut>, AllocError>
+    // The plan to store a node relative to its parent.
+    fn relative_plan(&self, id: u32, parent: u32) -> Result<Plan, AllocError>
         requires born { IsBorn self.now id }
-        requires made { recoded_for self.now id form ≡ Made }
-        ensures { IfOk result (λ piece. piece ≡ piece_in self.now.problem (past_of self.now) id form) }
+        requires stands { state_of (past_of self.now) id ≢ freed }
+        requires spanned { is_spanned self.now.problem self.now.settings (past_of self.now) id ≡ false }
+        requires parent { (node_at self.now.problem (past_of self.now) id).parent ≡ Some parent }
+        requires parent_stands { state_of (past_of self.now) parent ≢ freed }
+        ensures { IfOk result (λ plan. IsPlanFor self.now id Relative plan) }
     {
         descriptions_are_whole();
         let _columns = self.problem.get().columns();
-        let alloc = *self.records.allocator();
-        let desc = self.description_of(id)?;
+        let above = self.chain_to(parent)?;
+        let chain = self.chain_to(id)?;
+        Ok(Plan {
+            id,
+            chain,
+            above: Some(above),
+        })
+    }
+
+    // The plan to store a node in a form in which it may be stored.
+    fn plan_for(&self, id: u32, form: Form) -> Result<Plan, AllocError>
+        requires born { IsBorn self.now id }
+        requires open { encoding_for self.now id form ≡ Open }
+        ensures { IfOk result (λ plan. IsPlanFor self.now id form plan) }
+    {
         match form {
-            Form::Explicit => Ok(Piece::Explicit(Shared::new(alloc, desc)?)),
+            Form::Explicit => self.whole_plan(id),
             Form::Relative => {
                 let Some(parent) = self.records[id as usize].parent else {
                     unreachable!()
                 };
-                let above = self.description_of(parent)?;
-                let change = between(alloc, &above, &desc)?;
-                Ok(Piece::Relative(Shared::new(alloc, change)?))
+                self.relative_plan(id, parent)
             }
         }
     }
 
-    /// Stores a node that is born in another form. `AllocError` where there is no memory; the tree is then as it was.
-    pub fn recode(&mut self, seat: u32, id: u32, form: Form) -> Result<Recoded, AllocError>
-        requires { IsBorn self.old id }
-        ensures recoded { IfOk result (λ answer. Recodes self.old seat id form answer self.new) }
+    /// Plans to store a node that is born in another form. The plan shares the tree's pieces: it is encoded without the tree, and what is made of it is installed. `AllocError` where the count of owners of a piece can't grow.
+    pub fn plan(&self, id: u32, form: Form) -> Result<Planned, AllocError>
+        requires { IsBorn self.now id }
+        ensures { IfOk result (λ planned. Plans self.now id form planned) }
+    {
+        match self.encoding(id, form) {
+            Encoding::Gone => Ok(Planned::Gone),
+            Encoding::Same => Ok(Planned::Same),
+            Encoding::Fixed => Ok(Planned::Fixed),
+            Encoding::Open => Ok(Planned::Chain(self.plan_for(id, form)?)),
+        }
+    }
+
+    /// Stores a node as a job has it. `AllocError` where there is no memory; the tree is then as it was.
+    pub fn install(&mut self, seat: u32, job: Job) -> Result<Installed, AllocError>
+        requires { IsJobOf self.old job }
+        ensures installed { IfOk result (λ answer. Installs self.old seat job answer self.new) }
         ensures err { OnErr result (self.new ≡ self.old) }
     {
-        let answer = self.recoding(id, form);
-        if answer != Recoded::Made {
-            return Ok(answer);
+        let Job { id, form, piece } = job;
+        let encoding = self.encoding(id, form);
+        if encoding != Encoding::Open {
+            return Ok(installed_as(encoding));
         }
-        let piece = self.encoded(id, form)?;
         let outs = self.outs as usize;
         self.journal.reserve(outs + 1)?;
         self.candidates.reserve(3 * outs + 1, 0)?;
         let parent = store(&mut self.records, id as usize, piece);
         add_if(&mut self.candidates, parent);
         self.journal.push_reserved(Entry::Encode { seat, id, form });
-        Ok(answer)
+        Ok(Installed::Made)
     }
 
     // The least node that may be freed. The candidates before it go.

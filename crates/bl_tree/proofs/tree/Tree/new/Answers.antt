@@ -15,7 +15,7 @@ use Rattle.bl_tree.proofs.tree.Tree.new.Goals as goal
 
 pub invariant_of-result : goal.invariant_of-result
 invariant_of-result c =
-    let p : Program = c.from_arc-problem.result in
+    let p : Program = c.in_ok-problem.problem in
     let fit : FitsSigned w128 c.root_low-low.result = search rules in
     let low = to_z-of_z w128 _ fit ∙ (c.root_low-low.ensures ∙ ap (λ (q : Program). trivial_bound_of q (own_lows q) (own_highs q)) c.get-2.ensures) in
     let desc = c.in_ok-new.ensures ∙ (c.in_ok-desc.ensures ∙ ap root_desc c.get.ensures) in
@@ -31,7 +31,7 @@ invariant_of-result c =
     let long = c.join_if.ensures.below in
     let asked = c.in_ok-reserve.ensures.below in
     let here = ap (key_in pool) (sym same) ∙ (c.join_if.ensures.here ∙ ap (λ (k : Key). cond c.root_record-record.result.has_point (Some k) None) key) in
-    rw (c.new-2.ensures, r) (root_tree p c.args.settings c.new-2.result.room (vec_capacity c.push.new.self) pool c.add.new.pool c.root_record-record.result is
+    rw (c.new-3.ensures, r) (root_tree p c.args.settings c.new-3.result.room (vec_capacity c.push.new.self) pool c.add.new.pool c.root_record-record.result is
     c.requires.span c.requires.short c.requires.few c.requires.gap_some c.requires.gap_few a (omega (arith, long, asked)) (omega (arith, listed_long, listed_asked)) c.add.ensures.plain c.add.ensures.here order here
     (λ id ne. c.join_if.ensures.others id (λ i. ne (i ∙ same)) ∙ (c.reserve.ensures.keys id ∙ c.new-waiting.ensures.empty id)))
 

@@ -10,10 +10,11 @@ use Rattle.bl_desc.specs.declared.change.Change.{Change}
 use Rattle.bl_desc.specs.Changes.{changed}
 use Rattle.bl_journal.specs.Births.{nodes_of}
 use Rattle.bl_journal.specs.Descriptions.{left_child, right_child}
-use Rattle.bl_journal.proofs.Lines.{full_whole}
+use Rattle.bl_journal.proofs.Lines.{full_columns}
 use Rattle.bl_journal.proofs.Growth.{reverse-push}
 use Rattle.bl_tree.proofs.Covers.{IsCovered, covered_put, two_listed}
 use Rattle.bl_tree.specs.Records.{best_value_with, place_with, improves, box_has_point, is_listed}
+use Rattle.bl_tree.specs.Chains.{described_by}
 use Rattle.bl_journal.specs.declared.entry.Entry.{Entry}
 use Rattle.bl_journal.specs.declared.entry.Entry.TheVariants.{Put}
 use Rattle.bl_journal.specs.declared.entry.Step.TheVariants.{Shut, Split}
@@ -244,10 +245,10 @@ invariant_of-self-in-Split c =
     let below = c.self.invariant.waiting_below in
     let wide = c.join_children.ensures.room in
     let kept_below = c.join_children.ensures.below in
-    let full = desc_is c.self.inside.problem c.self.inside.settings c.self.inside.journal.entries c.args.seat c.parts_of-id.result.0 c.args.lease c.args.outcome _ c.parts_of-id.result.1 f c.parts_of-id.ensures.desc in
+    let full = desc_is c.self.inside.problem c.self.inside.settings c.self.inside.journal.entries c.args.seat c.parts_of-id.result.0 c.args.lease c.args.outcome _ (described_by c.parts_of-id.result.1) f c.parts_of-id.ensures.gives in
     let better : c.is_better.result ≡ improves c.self.inside.problem c.self.inside.best c.args.outcome.found =
     c.is_better.ensures ∙ ap (λ (p : Program). improves p c.self.inside.best c.args.outcome.found) c.get-problem.ensures in
-    let child : (Desc Cut → ℕ → ℤ → Desc Cut) → ℤ → Change Cut → Bool = λ which z x. box_has_point (which (changed x c.parts_of-id.result.1) c.in-Split.column z) in
+    let child : (Desc Cut → ℕ → ℤ → Desc Cut) → ℤ → Change Cut → Bool = λ which z x. box_has_point (which (changed x (described_by c.parts_of-id.result.1)) c.in-Split.column z) in
     let opens_left = c.have_points-left_open.ensures.left ∙ (ap (λ (z : ℤ). child left_child z c.get.result.now) at ∙ ap (child left_child c.in-Split.at) c.get.ensures) in
     let opens_right = c.have_points-left_open.ensures.right ∙ (ap (λ (z : ℤ). child right_child z c.get.result.now) at ∙ ap (child right_child c.in-Split.at) c.get.ensures) in
     let n : c.len-count.result ≡ length (nodes_of c.self.inside.problem (reverse c.self.inside.journal.entries)) = len ∙ c.self.invariant.follows.records.count in
@@ -270,7 +271,8 @@ invariant_of-self-in-Split c =
     let listed_below = c.self.invariant.candidate_below in
     let kept_listed = c.add.ensures.below in
     let kept_listed_two = c.add_two.ensures.below in
-    record {
+    rw c.have_points-left_open.ensures.same
+    (record {
       listed = c.add_two.ensures.plain;
       covered = rw (made, reverse-push c.self.inside.journal.entries e0)
           (subst (λ (b : Bool). IsCovered c.self.inside.problem c.self.inside.settings (e0 ∷ reverse c.self.inside.journal.entries) (is_listed c.add_two.new.pool) (c.self.inside.fell || b)) (sym better)
@@ -284,24 +286,14 @@ invariant_of-self-in-Split c =
       waiting_room = omega (arith, o, old, wide);
       waiting_below = omega (arith, o, below, kept_below, more_records, long);
       outs_is = now;
-      follows = split_done _ _ _ _ _ _ _ _ _ _ _ _ _ _ c.parts_of-id.result.0 c.args.seat c.len-count.result c.args.lease c.args.outcome c.in-Split.common c.in-Split.column c.in-Split.at c.in-Split.left c.in-Split.right c.index_mut-parent.result.now _ _ c.parts_of-id.result.1 _ _ _
+      follows = split_done _ _ _ _ _ _ _ _ _ _ _ _ _ _ c.parts_of-id.result.0 c.args.seat c.len-count.result c.args.lease c.args.outcome c.in-Split.common c.in-Split.column c.in-Split.at c.in-Split.left c.in-Split.right c.index_mut-parent.result.now _ _ (described_by c.parts_of-id.result.1) _ _ _
           c.self.invariant.follows f e c.push_reserved-in-Split-3.ensures.room
           (c.push_reserved-in-Split-2.ensures.capacity ∙ c.push_reserved-in-Split.ensures.capacity)
           len full opens_left opens_right above c.new_record.ensures c.new_record-in-Split.ensures
           c.push_reserved-in-Split.ensures.items c.push_reserved-in-Split-2.ensures.items made is_best;
       stands = stands_put c.self.inside.problem c.self.inside.journal.entries _ c.args.seat c.parts_of-id.result.0 c.args.outcome.found c.args.outcome.low (Split c.in-Split.common c.in-Split.column c.in-Split.at)
           c.self.inside.best c.self.inside.best_place _ made c.self.invariant.follows.best_is place c.self.invariant.stands;
-    }
-
-pub have_points-left_open-requires-clause-high : goal.have_points-left_open-requires-clause-high
-have_points-left_open-requires-clause-high c =
-    let f = put_facts c.self.inside.problem c.self.inside.settings c.self.inside.journal.entries c.args.self.now c.args.seat c.args.lease c.args.outcome c.parts_of-id.result.0 _
-    c.self.view_is c.parts_of-id.ensures.id c.in-Split.is c.requires in
-    let full = desc_is c.self.inside.problem c.self.inside.settings c.self.inside.journal.entries c.args.seat c.parts_of-id.result.0 c.args.lease c.args.outcome _ c.parts_of-id.result.1 f c.parts_of-id.ensures.desc in
-    let whole = (full_whole c.self.inside.problem (reverse c.self.inside.journal.entries) c.parts_of-id.result.0).highs in
-    let column = f.may.sound.next_ok.column_in in
-    let same = ap (λ (d : Desc Cut). length d.highs) full in
-    omega (arith, whole, column, same)
+    })
 
 pub add_two-requires-clause-room : goal.add_two-requires-clause-room
 add_two-requires-clause-room c =
@@ -323,3 +315,18 @@ add_two-requires-clause-below c =
     let kept = c.add.ensures.below in
     let len : c.len-count.result ≡ length c.self.inside.records.items = search rules in
     omega (arith, o, below, kept, len)
+
+pub have_points-left_open-requires-clause-width : goal.have_points-left_open-requires-clause-width
+have_points-left_open-requires-clause-width c =
+    let f = put_facts c.self.inside.problem c.self.inside.settings c.self.inside.journal.entries c.args.self.now c.args.seat c.args.lease c.args.outcome c.parts_of-id.result.0 _
+    c.self.view_is c.parts_of-id.ensures.id c.in-Split.is c.requires in
+    let full = desc_is c.self.inside.problem c.self.inside.settings c.self.inside.journal.entries c.args.seat c.parts_of-id.result.0 c.args.lease c.args.outcome _ (described_by c.parts_of-id.result.1) f c.parts_of-id.ensures.gives in
+    ap (λ (d : Desc Cut). length d.lows) full ∙ full_columns c.self.inside.problem (reverse c.self.inside.journal.entries) c.parts_of-id.result.0
+
+pub have_points-left_open-requires-clause-column : goal.have_points-left_open-requires-clause-column
+have_points-left_open-requires-clause-column c =
+    let f = put_facts c.self.inside.problem c.self.inside.settings c.self.inside.journal.entries c.args.self.now c.args.seat c.args.lease c.args.outcome c.parts_of-id.result.0 _
+    c.self.view_is c.parts_of-id.ensures.id c.in-Split.is c.requires in
+    let width = full_columns c.self.inside.problem (reverse c.self.inside.journal.entries) c.parts_of-id.result.0 in
+    let column = f.may.sound.next_ok.column_in in
+    omega (arith, width, column)

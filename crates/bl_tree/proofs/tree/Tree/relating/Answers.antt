@@ -5,7 +5,7 @@ use Rattle.bl_journal.specs.Births.{node_at}
 use Rattle.bl_journal.specs.States.{is_spanned}
 use Rattle.bl_tree.specs.Views.{TreeView, past_of}
 use Rattle.bl_tree.specs.Answers.{IsBorn, is_freed_if, related_for}
-use Rattle.bl_tree.specs.declared.answer.Recoded.TheVariants.{Made, Fixed, Gone}
+use Rattle.bl_tree.specs.declared.answer.Encoding.TheVariants.{Open, Fixed, Gone}
 use Rattle.bl_tree.proofs.Chained.{known, parent_born}
 use Rattle.bl_tree.proofs.tree.Tree.relating.Goals as goal
 
@@ -24,7 +24,7 @@ returns-then-record-self-eq0 c =
     let u : TreeView = record { problem = c.self.inside.problem; settings = c.self.inside.settings; history = c.self.inside.journal.entries } in
     let t : is_spanned u.problem u.settings (past_of u) c.args.id ≡ true = ap (λ (d : ℕ). d % c.self.inside.settings.span == 0) (sym f.node.depth) ∙ eq-eqb _ 0 c.if-record-self-eq0.true in
     subst (λ (t : TreeView). Fixed ≡ related_for t c.args.id) c.self.view_is
-    (sym (cond-true (is_spanned u.problem u.settings (past_of u) c.args.id) Fixed (cond (is_freed_if u (node_at u.problem (past_of u) c.args.id).parent) Gone Made) t))
+    (sym (cond-true (is_spanned u.problem u.settings (past_of u) c.args.id) Fixed (cond (is_freed_if u (node_at u.problem (past_of u) c.args.id).parent) Gone Open) t))
 
 pub returns-then-is_gone : goal.returns-then-is_gone
 returns-then-is_gone c =
@@ -35,8 +35,8 @@ returns-then-is_gone c =
     let g : is_freed_if u (node_at u.problem (past_of u) c.args.id).parent ≡ true =
     ap (is_freed_if u) (sym f.storage.parent) ∙ (ap (λ (t : TreeView). is_freed_if t c.index-record.result.now.parent) c.self.view_is ∙ (sym c.is_gone.ensures ∙ c.if-is_gone.true)) in
     subst (λ (t : TreeView). Gone ≡ related_for t c.args.id) c.self.view_is
-    (sym (cond-false (is_spanned u.problem u.settings (past_of u) c.args.id) Fixed (cond (is_freed_if u (node_at u.problem (past_of u) c.args.id).parent) Gone Made) t
-    ∙ cond-true (is_freed_if u (node_at u.problem (past_of u) c.args.id).parent) Gone Made g))
+    (sym (cond-false (is_spanned u.problem u.settings (past_of u) c.args.id) Fixed (cond (is_freed_if u (node_at u.problem (past_of u) c.args.id).parent) Gone Open) t
+    ∙ cond-true (is_freed_if u (node_at u.problem (past_of u) c.args.id).parent) Gone Open g))
 
 pub returns-else-is_gone : goal.returns-else-is_gone
 returns-else-is_gone c =
@@ -46,6 +46,6 @@ returns-else-is_gone c =
     let t : is_spanned u.problem u.settings (past_of u) c.args.id ≡ false = ap (λ (d : ℕ). d % c.self.inside.settings.span == 0) (sym f.node.depth) ∙ ne_eqb _ 0 c.if-record-self-eq0.false in
     let g : is_freed_if u (node_at u.problem (past_of u) c.args.id).parent ≡ false =
     ap (is_freed_if u) (sym f.storage.parent) ∙ (ap (λ (t : TreeView). is_freed_if t c.index-record.result.now.parent) c.self.view_is ∙ (sym c.is_gone.ensures ∙ c.if-is_gone.false)) in
-    subst (λ (t : TreeView). Made ≡ related_for t c.args.id) c.self.view_is
-    (sym (cond-false (is_spanned u.problem u.settings (past_of u) c.args.id) Fixed (cond (is_freed_if u (node_at u.problem (past_of u) c.args.id).parent) Gone Made) t
-    ∙ cond-false (is_freed_if u (node_at u.problem (past_of u) c.args.id).parent) Gone Made g))
+    subst (λ (t : TreeView). Open ≡ related_for t c.args.id) c.self.view_is
+    (sym (cond-false (is_spanned u.problem u.settings (past_of u) c.args.id) Fixed (cond (is_freed_if u (node_at u.problem (past_of u) c.args.id).parent) Gone Open) t
+    ∙ cond-false (is_freed_if u (node_at u.problem (past_of u) c.args.id).parent) Gone Open g))

@@ -94,8 +94,7 @@ invariant_of-self-in_err-make_room c =
     c.reserve.ensures.kept c.make_room.ensures.record_room c.make_room.ensures.waiting_room c.make_room.ensures.waiting_below c.make_room.ensures.candidate_room c.make_room.ensures.candidate_below
 
 pub invariant_of-result : goal.invariant_of-result
-invariant_of-result c =
-    rebuilt_is c.in_ok-chain.chain (full_of c.next_live.new.self.problem (past_of c.next_live.new.self) c.in-Some.id) c.in_ok-chain.ensures.sound ∙ ap Some (sym c.in_ok-chain.ensures.sound.gives ∙ sym c.in_ok-desc.ensures)
+invariant_of-result c = record { whole = c.in_ok-chain.ensures.sound.whole; fits = c.in_ok-chain.ensures.sound.fits }
 
 pub index_mut-record-requires : goal.index_mut-record-requires
 index_mut-record-requires c =
