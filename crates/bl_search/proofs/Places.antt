@@ -59,9 +59,10 @@ promised_place g closure p f form o node (inr k) =
     subst (λ (n : Next). IsPlaced (MayAnswer g closure) f (step_of n)) (sym k.is.next)
     (subst (λ (x : Desc Cut). MayAnswer g closure x (record { column = k.place.column; at = k.place.at })) (sym after) (k.point, k.answers))
 
-pub put_places : {F : Type 0} (g : Calls F) (closure : F) (t : TreeView) (id : ℕ) (form : Form) (o : Outcome) → IsNode t.problem (full_of t.problem (past_of t) id)
-    → IsShutOrSplit g closure t.problem (full_of t.problem (past_of t) id) form o
-    → SplitsAt (MayAnswer g closure) t.problem (past_of t) → SplitsAt (MayAnswer g closure) t.problem (past_of (extended t (put_entry 0 id o)))
-put_places g closure t id form o node k h =
-    subst (SplitsAt (MayAnswer g closure) t.problem) (sym (reverse-push t.history (put_entry 0 id o)))
-    (promised_place g closure t.problem (full_of t.problem (past_of t) id) form o node k, h)
+pub put_places : {F : Type 0} (g : Calls F) (closure : F) (t : TreeView) (seat id : ℕ) (form : Form) (o : Outcome) → IsNode t.problem (full_of t.problem (past_of t) id)
+    → IsShutOrSplit g closure t.problem (full_of t.problem (past_of t) id) form o → PutsAt (MayAnswer g closure) t.problem (past_of t) (put_entry seat id o)
+put_places g closure t seat id form o node k = promised_place g closure t.problem (full_of t.problem (past_of t) id) form o node k
+
+-- one more put
+pub places_on : (P : Desc Cut → Place → Type 0) (p : Program) (t : TreeView) (e : Entry) → PutsAt P p (past_of t) e → SplitsAt P p (past_of t) → SplitsAt P p (past_of (extended t e))
+places_on P p t e placed before = subst (SplitsAt P p) (sym (reverse-push t.history e)) (placed, before)

@@ -46,49 +46,49 @@ each_point (a ∷ lows) (b ∷ highs) e h zero l = let parts = and_parts (int_le
 each_point (a ∷ lows) (b ∷ highs) e h (suc j) l = each_point lows highs (omega (arith, e)) (and_parts (int_le a b) (has_point lows highs) h).1 j (omega (arith, l))
 
 -- the description of a node that is out is that of a node to work on
-pub is-node : LeasesAreWorkable → (t : TreeView) (id : ℕ) → IsLegalTree t → IsProgram t.problem → state_of (past_of t) id ≡ out 0 → IsNode t.problem (full_of t.problem (past_of t) id)
-is-node laws t id legal program o =
-    let whole = laws.whole t.problem t.settings t.history id 0 legal o in
-    let columns = laws.columns t.problem t.settings t.history id 0 legal o in
-    let rows = laws.rows t.problem t.settings t.history id 0 legal o in
+pub is-node : LeasesAreWorkable → (t : TreeView) (seat id : ℕ) → IsLegalTree t → IsProgram t.problem → state_of (past_of t) id ≡ out seat → IsNode t.problem (full_of t.problem (past_of t) id)
+is-node laws t seat id legal program o =
+    let whole = laws.whole t.problem t.settings t.history id seat legal o in
+    let columns = laws.columns t.problem t.settings t.history id seat legal o in
+    let rows = laws.rows t.problem t.settings t.history id seat legal o in
     record {
       describes = record {
         lows = columns;
         highs = whole.highs ∙ columns;
-        near_lows = laws.lows t.problem t.settings t.history id 0 legal o program;
-        near_highs = laws.highs t.problem t.settings t.history id 0 legal o program;
-        few_cuts = laws.few t.problem t.settings t.history id 0 legal o;
-        cuts = laws.suit t.problem t.settings t.history id 0 legal o;
+        near_lows = laws.lows t.problem t.settings t.history id seat legal o program;
+        near_highs = laws.highs t.problem t.settings t.history id seat legal o program;
+        few_cuts = laws.few t.problem t.settings t.history id seat legal o;
+        cuts = laws.suit t.problem t.settings t.history id seat legal o;
       };
       whole = whole;
       rows = rows;
       few_columns = rw columns program.few_columns;
       few_rows = rw rows program.few_rows;
-      ids = laws.ids t.problem t.settings t.history id 0 legal o;
-      cuts = laws.valid t.problem t.settings t.history id 0 legal o;
+      ids = laws.ids t.problem t.settings t.history id seat legal o;
+      cuts = laws.valid t.problem t.settings t.history id seat legal o;
     }
 
 -- the cuts of a node that is out carry serial numbers of before
-pub names-below : CutsWereAdded → (t : TreeView) (id serial : ℕ) → IsLegalTree t → state_of (past_of t) id ≡ out 0 → AreSerialsBelow serial (past_of t) → AreNamedBelow 0 serial (full_of t.problem (past_of t) id).cuts
-names-below law t id serial legal o h =
-    named_below serial (past_of t) (full_of t.problem (past_of t) id).cuts h
-    (law t.problem t.settings t.history id legal (out_born t.problem (past_of t) id 0 (shape t.problem t.settings (past_of t) legal.steps) o))
+pub names-below : CutsWereAdded → (t : TreeView) (seat id serial : ℕ) → IsLegalTree t → state_of (past_of t) id ≡ out seat → AreSerialsBelow seat serial (past_of t) → AreNamedBelow seat serial (full_of t.problem (past_of t) id).cuts
+names-below law t seat id serial legal o h =
+    named_below seat serial (past_of t) (full_of t.problem (past_of t) id).cuts h
+    (law t.problem t.settings t.history id legal (out_born t.problem (past_of t) id seat (shape t.problem t.settings (past_of t) legal.steps) o))
 
 -- the form of the children of a node
 abbrev pub form_under : TreeView → ℕ → Form
 form_under t id = form_at_birth t.settings.span ((node_at t.problem (past_of t) id).depth + 1)
 
 -- the children of a split, after the common change, are what is stored of them
-split_stored : ChildrenFollow → NewbornsAreStored → (t : TreeView) (id : ℕ) (found : Option (List ℤ)) (low : ℤ) (common : Change Cut) (column : ℕ) (at_most : ℤ) (d : Desc Cut) → IsLegalTree t
-    → MayPut t.problem t.settings (past_of t) 0 id found low (SplitStep common column at_most) → changed common (full_of t.problem (past_of t) id) ≡ d
-    → PiecesStored (extended t (Put 0 id found low (SplitStep common column at_most)))
+split_stored : ChildrenFollow → NewbornsAreStored → (t : TreeView) (seat id : ℕ) (found : Option (List ℤ)) (low : ℤ) (common : Change Cut) (column : ℕ) (at_most : ℤ) (d : Desc Cut) → IsLegalTree t
+    → MayPut t.problem t.settings (past_of t) seat id found low (SplitStep common column at_most) → changed common (full_of t.problem (past_of t) id) ≡ d
+    → PiecesStored (extended t (Put seat id found low (SplitStep common column at_most)))
     (Split common column at_most (piece_below (full_of t.problem (past_of t) id) (form_under t id) (left_child d column at_most))
     (piece_below (full_of t.problem (past_of t) id) (form_under t id) (right_child d column at_most)))
-split_stored children stored t id found low common column at_most d legal may is =
+split_stored children stored t seat id found low common column at_most d legal may is =
     let p : Program = t.problem in
     let s : Settings = t.settings in
     let past : List Entry = past_of t in
-    let e : Entry = Put 0 id found low (SplitStep common column at_most) in
+    let e : Entry = Put seat id found low (SplitStep common column at_most) in
     let f : Desc Cut = full_of p past id in
     let turned : reverse (t.history ++ e ∷ []) ≡ e ∷ past = reverse-push t.history e in
     let n : ℕ = length (nodes_of p (e ∷ past)) in
@@ -96,53 +96,53 @@ split_stored children stored t id found low common column at_most d legal may is
     let first : n - 2 ≡ length (nodes_of p past) = omega (arith, len) in
     let second : n - 1 ≡ length (nodes_of p past) + 1 = omega (arith, len) in
     let left : full_of p (e ∷ past) (length (nodes_of p past)) ≡ left_child d column at_most =
-    children.left p s t.history 0 id found low common column at_most legal may ∙ ap (λ (x : Desc Cut). left_child x column at_most) is in
+    children.left p s t.history seat id found low common column at_most legal may ∙ ap (λ (x : Desc Cut). left_child x column at_most) is in
     let right : full_of p (e ∷ past) (length (nodes_of p past) + 1) ≡ right_child d column at_most =
-    children.right p s t.history 0 id found low common column at_most legal may ∙ ap (λ (x : Desc Cut). right_child x column at_most) is in
+    children.right p s t.history seat id found low common column at_most legal may ∙ ap (λ (x : Desc Cut). right_child x column at_most) is in
     let l : stored_of p s (e ∷ past) (n - 2) ≡ piece_below f (form_under t id) (left_child d column at_most) =
-    ap (stored_of p s (e ∷ past)) first ∙ (stored.left p s t.history 0 id found low common column at_most legal may ∙ ap (piece_below f (form_under t id)) left) in
+    ap (stored_of p s (e ∷ past)) first ∙ (stored.left p s t.history seat id found low common column at_most legal may ∙ ap (piece_below f (form_under t id)) left) in
     let r : stored_of p s (e ∷ past) (n - 1) ≡ piece_below f (form_under t id) (right_child d column at_most) =
-    ap (stored_of p s (e ∷ past)) second ∙ (stored.right p s t.history 0 id found low common column at_most legal may ∙ ap (piece_below f (form_under t id)) right) in
+    ap (stored_of p s (e ∷ past)) second ∙ (stored.right p s t.history seat id found low common column at_most legal may ∙ ap (piece_below f (form_under t id)) right) in
     (sym (ap (λ h. stored_of p s h (length (nodes_of p h) - 2)) turned ∙ l), sym (ap (λ h. stored_of p s h (length (nodes_of p h) - 1)) turned ∙ r))
 
 -- the pieces of an outcome are what is stored
-pieces_for : {F : Type 0} (g : Calls F) (closure : F) → ChildrenFollow → NewbornsAreStored → (t : TreeView) (id : ℕ) (form : Form) (o : Outcome) → IsLegalTree t
-    → IsNode t.problem (full_of t.problem (past_of t) id) → form ≡ form_under t id → MayPut t.problem t.settings (past_of t) 0 id o.found o.low (step_of o.next)
-    → (o.next ≡ Shut) ⊎ SplitsAsPromised g closure t.problem (full_of t.problem (past_of t) id) form o → PiecesStored (extended t (put_entry 0 id o)) o.next
-pieces_for g closure children stored t id form o legal node same may (inl e) =
-    subst (λ (n : Next). PiecesStored (extended t (Put 0 id o.found o.low (step_of n))) n) (sym e) tt
-pieces_for g closure children stored t id form o legal node same may (inr k) =
+pieces_for : {F : Type 0} (g : Calls F) (closure : F) → ChildrenFollow → NewbornsAreStored → (t : TreeView) (seat id : ℕ) (form : Form) (o : Outcome) → IsLegalTree t
+    → IsNode t.problem (full_of t.problem (past_of t) id) → form ≡ form_under t id → MayPut t.problem t.settings (past_of t) seat id o.found o.low (step_of o.next)
+    → (o.next ≡ Shut) ⊎ SplitsAsPromised g closure t.problem (full_of t.problem (past_of t) id) form o → PiecesStored (extended t (put_entry seat id o)) o.next
+pieces_for g closure children stored t seat id form o legal node same may (inl e) =
+    subst (λ (n : Next). PiecesStored (extended t (Put seat id o.found o.low (step_of n))) n) (sym e) tt
+pieces_for g closure children stored t seat id form o legal node same may (inr k) =
     let f : Desc Cut = full_of t.problem (past_of t) id in
     let d : Desc Cut = k.work.desc in
     let is : changed (common_of f d) f ≡ d = changed-difference (λ (c : Cut). c.id) f d node.whole k.narrows.whole k.narrows.low_width (sym k.narrows.rows) k.narrows.part in
-    let allowed = subst (λ (n : Next). MayPut t.problem t.settings (past_of t) 0 id o.found o.low (step_of n)) k.is.next may in
-    subst (λ (n : Next). PiecesStored (extended t (Put 0 id o.found o.low (step_of n))) n) (sym k.is.next)
-    (rw same (split_stored children stored t id o.found o.low (common_of f d) k.place.column k.place.at d legal allowed is))
+    let allowed = subst (λ (n : Next). MayPut t.problem t.settings (past_of t) seat id o.found o.low (step_of n)) k.is.next may in
+    subst (λ (n : Next). PiecesStored (extended t (Put seat id o.found o.low (step_of n))) n) (sym k.is.next)
+    (rw same (split_stored children stored t seat id o.found o.low (common_of f d) k.place.column k.place.at d legal allowed is))
 
 -- an outcome as it was promised may be put in
-pub put_fits : {F : Type 0} (g : Calls F) (closure : F) (allows : Desc Cut → Try → Type 0) → ChildrenFollow → NewbornsAreStored → (t : TreeView) (lease : LeaseView) (limits : Limits) (span serial : ℕ) (o : Outcome) → IsLegalTree t → IsLeaseOf t 0 lease
-    → IsNode t.problem (full_of t.problem (past_of t) lease.id) → AreSerialsBelow serial (past_of t) → AreLimitsAt span lease.depth serial limits → form_of limits ≡ form_under t lease.id
-    → IsPromised g closure allows t.problem (full_of t.problem (past_of t) lease.id) (cutoff_of t.problem t.settings (past_of t) lease.id) limits o → IsPutFor t 0 lease o
-put_fits g closure allows children stored t lease limits span serial o legal leased node names at_depth form k =
+pub put_fits : {F : Type 0} (g : Calls F) (closure : F) (allows : Desc Cut → Try → Type 0) → ChildrenFollow → NewbornsAreStored → (t : TreeView) (lease : LeaseView) (limits : Limits) (span seat serial : ℕ) (o : Outcome) → IsLegalTree t → IsLeaseOf t seat lease
+    → IsNode t.problem (full_of t.problem (past_of t) lease.id) → AreSerialsBelow seat serial (past_of t) → AreLimitsAt span lease.depth seat serial limits → form_of limits ≡ form_under t lease.id
+    → IsPromised g closure allows t.problem (full_of t.problem (past_of t) lease.id) (cutoff_of t.problem t.settings (past_of t) lease.id) limits o → IsPutFor t seat lease o
+put_fits g closure allows children stored t lease limits span seat serial o legal leased node names at_depth form k =
     let few : length (added_in o.next) ≤ most_new_cuts (node_at t.problem (past_of t) lease.id).depth =
     let a = k.adds.few in
-    let b = at_depth.new_cuts ∙ ap most_new_cuts leased.depth in
+    let b = subst (λ (d : ℕ). limits.new_cuts ≤ most_new_cuts d) leased.depth at_depth.few_cuts in
     omega (arith, a, b) in
-    let numbered : AreNumbered 0 limits.serial (added_in o.next) = subst (λ (seat : ℕ). AreNumbered seat limits.serial (added_in o.next)) at_depth.seat k.adds.numbered in
-    let new = numbered_new serial (past_of t) (added_in o.next) limits.serial numbered (let e = at_depth.serial_is in omega (arith, e)) names in
-    let may : MayPut t.problem t.settings (past_of t) 0 lease.id o.found o.low (step_of o.next) =
+    let numbered : AreNumbered seat limits.serial (added_in o.next) = subst (λ (s : ℕ). AreNumbered s limits.serial (added_in o.next)) at_depth.seat_is k.adds.numbered in
+    let new = numbered_new seat serial (past_of t) (added_in o.next) limits.serial numbered (let e = at_depth.serial_is in omega (arith, e)) names in
+    let may : MayPut t.problem t.settings (past_of t) seat lease.id o.found o.low (step_of o.next) =
     record {
       is_out = leased.is_out;
       sound = k.sound;
       few_cuts = subst (λ (cuts : List Cut). length cuts ≤ most_new_cuts (node_at t.problem (past_of t) lease.id).depth) (sym (added_step o.next)) few;
-      new_ids = subst (All (λ (c : Cut). IsNewId (past_of t) 0 c.id)) (sym (added_step o.next)) new;
+      new_ids = subst (All (λ (c : Cut). IsNewId (past_of t) seat c.id)) (sym (added_step o.next)) new;
     } in
-    record { leased = leased; allowed = may; pieces = pieces_for g closure children stored t lease.id (form_of limits) o legal node form may k.split }
+    record { leased = leased; allowed = may; pieces = pieces_for g closure children stored t seat lease.id (form_of limits) o legal node form may k.split }
 
 -- the form by the limits is that of the children
-pub form_is : (t : TreeView) (lease : LeaseView) (span serial : ℕ) (limits : Limits) → t.settings.span ≡ span → lease.depth ≡ (node_at t.problem (past_of t) lease.id).depth
-    → AreLimitsAt span lease.depth serial limits → form_of limits ≡ form_under t lease.id
-form_is t lease span serial limits same depth h =
+pub form_is : (t : TreeView) (lease : LeaseView) (span seat serial : ℕ) (limits : Limits) → t.settings.span ≡ span → lease.depth ≡ (node_at t.problem (past_of t) lease.id).depth
+    → AreLimitsAt span lease.depth seat serial limits → form_of limits ≡ form_under t lease.id
+form_is t lease span seat serial limits same depth h =
     ap (λ (b : Bool). cond b Explicit Relative) h.explicit ∙ ap (λ (n : ℕ). form_at_birth span (n + 1)) depth
     ∙ ap (λ (n : ℕ). form_at_birth n ((node_at t.problem (past_of t) lease.id).depth + 1)) (sym same)
 

@@ -18,11 +18,14 @@ use Rattle.bl_journal.proofs.Workable.{Each-from_all, All-from_each}
 use Rattle.bl_journal.proofs.Ties.{is_freed-is}
 use Rattle.bl_journal.proofs.Upkeep.{untouched, settled_before, settled_by}
 use Rattle.bl_tree.specs.declared.answer.Born.{Born}
-use Rattle.bl_tree.specs.declared.answer.Recoded.{Recoded}
-use Rattle.bl_tree.specs.declared.answer.Recoded.TheVariants.{Same, Gone}
+use Rattle.bl_tree.specs.declared.answer.Encoding.{Encoding}
+use Rattle.bl_tree.specs.declared.answer.Encoding.TheVariants.{Open, Same, Fixed, Gone}
+use Rattle.bl_tree.specs.declared.plan.Installed.{Installed}
+use Rattle.bl_tree.specs.declared.plan.Installed.TheVariants.{Same as InstalledSame, Gone as InstalledGone}
 use Rattle.bl_tree.specs.Views.{TreeView, past_of, extended}
-use Rattle.bl_tree.specs.Answers.{IsBorn, recoded_from}
-use Rattle.bl_tree.specs.Calls.{recoded, Recodes}
+use Rattle.bl_tree.specs.Answers.{IsBorn, encoding_for, encoding_from, installed_for, installed_from}
+use Rattle.bl_tree.specs.Calls.{installed, Installs}
+use Rattle.bl_tree.specs.Jobs.{JobView}
 use Rattle.bl_journal.proofs.Growth.{reverse-push}
 use Rattle.bl_search.specs.Searches.{IsKeptUp, IsStoredWhole, AreStoredWhole, IsFreed, HasTidied}
 
@@ -74,13 +77,24 @@ settled_now : (old new : TreeView) (id : ℕ) (k : IsKeptUp old new) → IsSettl
 settled_now old new id k is =
     settled_by old.problem old.settings 0 k.entries (past_of old) id (each_upkeep old new k) (at_old (λ q s h. IsSettled q s h id) old new k is)
 
--- after the wish for a whole form, the node is explicit or freed
-pub stored_whole : (old new : TreeView) (id : ℕ) (answer : Recoded) → Recodes old 0 id Explicit answer new → IsStoredWhole old id new
-stored_whole old new id answer r = by_case (is_freed (state_of (past_of old) id)) (form_of old.problem old.settings (past_of old) id) refl refl r.0
+-- a node that need not or cannot be stored whole is explicit or freed
+pub whole_already : (t : TreeView) (id : ℕ) (e : Encoding) → encoding_for t id Explicit ≡ e → (e ≡ Open → ⊥) → IsStoredWhole t id t
+whole_already t id e is other = by_case (is_freed (state_of (past_of t) id)) (form_of t.problem t.settings (past_of t) id) refl refl is
   where
-    same : (a : Recoded) → answer ≡ a → recoded old 0 id Explicit a ≡ old → IsSettled old.problem old.settings (past_of old) id → IsStoredWhole old id new
+    by_case : (b : Bool) (f : Form) → is_freed (state_of (past_of t) id) ≡ b → form_of t.problem t.settings (past_of t) id ≡ f → cond b Gone (encoding_from t id f Explicit) ≡ e → IsStoredWhole t id t
+    by_case true f freed form is = record { kept_up = kept_up_none t; settled = inr (is_freed-is (state_of (past_of t) id) freed) }
+    by_case false Explicit freed form is = record { kept_up = kept_up_none t; settled = inl form }
+    by_case false Relative freed form is = absurd (other (sym is))
+
+-- after a whole node is installed, the node is explicit or freed
+pub stored_whole : (old new : TreeView) (id : ℕ) (job : JobView) (answer : Installed) → job.id ≡ id → job.form ≡ Explicit → Installs old 0 job answer new → IsStoredWhole old id new
+stored_whole old new id job answer named whole r =
+    by_case (is_freed (state_of (past_of old) id)) (form_of old.problem old.settings (past_of old) id) refl refl
+    (r.0 ∙ (ap (λ (k : ℕ). installed_for old k job.form) named ∙ ap (installed_for old id) whole))
+  where
+    same : (a : Installed) → answer ≡ a → installed old 0 job a ≡ old → IsSettled old.problem old.settings (past_of old) id → IsStoredWhole old id new
     same a is stays settled =
-        subst (λ (t : TreeView). IsStoredWhole old id t) (sym (r.1 ∙ (ap (recoded old 0 id Explicit) is ∙ stays)))
+        subst (λ (t : TreeView). IsStoredWhole old id t) (sym (r.1 ∙ (ap (installed old 0 job) is ∙ stays)))
         (record { kept_up = kept_up_none old; settled = settled })
 
     encoded : (sp : Bool) (f : Form) → cond sp Explicit (cond (id == id) Explicit f) ≡ Explicit
@@ -97,10 +111,11 @@ stored_whole old new id answer r = by_case (is_freed (state_of (past_of old) id)
               ∙ encoded (is_spanned old.problem old.settings (past_of old) id) (encoded_form (past_of old) id)));
         }
 
-    by_case : (b : Bool) (f : Form) → is_freed (state_of (past_of old) id) ≡ b → form_of old.problem old.settings (past_of old) id ≡ f → answer ≡ cond b Gone (recoded_from old id f Explicit) → IsStoredWhole old id new
-    by_case true f freed form is = same Gone is refl (inr (is_freed-is (state_of (past_of old) id) freed))
-    by_case false Explicit freed form is = same Same is refl (inl form)
-    by_case false Relative freed form is = made (r.1 ∙ ap (recoded old 0 id Explicit) is)
+    by_case : (b : Bool) (f : Form) → is_freed (state_of (past_of old) id) ≡ b → form_of old.problem old.settings (past_of old) id ≡ f → answer ≡ cond b InstalledGone (installed_from old id f Explicit) → IsStoredWhole old id new
+    by_case true f freed form is = same InstalledGone is refl (inr (is_freed-is (state_of (past_of old) id) freed))
+    by_case false Explicit freed form is = same InstalledSame is refl (inl form)
+    by_case false Relative freed form is =
+        made (r.1 ∙ (ap (installed old 0 job) is ∙ (ap (λ (k : ℕ). extended old (Encode 0 k job.form)) named ∙ ap (λ (f : Form). extended old (Encode 0 id f)) whole)))
 
 pub both_stored : (old mid new : TreeView) (born : Born) → IsStoredWhole old born.left mid → IsStoredWhole mid born.right new → AreStoredWhole old born new
 unfolding kept_up_then

@@ -1,6 +1,8 @@
 -- The search by one seat.
-use Rattle.std.specs.Prelude.{◌≡◌, ℕ, pos, ◌+◌, ◌*◌, ◌%◌, ◌==◌, ◌<◌, ◌≤◌, List, ◌++◌, All, Bool, true, false, reverse, Option, Some, None, IfSome}
+use Rattle.std.specs.Prelude.{◌≡◌, ℕ, pos, ◌+◌, ◌*◌, ◌^◌, ◌%◌, ◌==◌, ◌<◌, ◌≤◌, List, ◌++◌, All, Bool, true, false, reverse, Option, Some, None, IfSome}
 use Rattle.bl_problem.specs.Program.{Program}
+use Rattle.bl_problem.specs.declared.cut.Cut.{Cut}
+use Rattle.bl_desc.specs.declared.desc.Desc.{Desc}
 use Rattle.bl_problem.specs.Points.{own_lows, own_highs, points_in}
 use Rattle.bl_journal.specs.declared.entry.Entry.{Entry}
 use Rattle.bl_journal.specs.declared.outcome.Outcome.{Outcome}
@@ -12,23 +14,41 @@ use Rattle.bl_journal.specs.Results.{HasNoLive, IsSpent, IsFinal, answer_of}
 use Rattle.bl_journal.specs.Freeing.{HasNothingToFree}
 use Rattle.bl_journal.specs.Tidying.{IsUpkeepBy, IsSettled, WasSettled, IsTidied, splits_of}
 use Rattle.bl_tree.specs.declared.answer.Born.{Born}
-use Rattle.bl_tree.specs.Views.{TreeView, LeaseView, past_of, extended, put_entry}
+use Rattle.bl_tree.specs.Views.{TreeView, LeaseView, IsLegalTree, IsLeaseOf, IsPutFor, past_of, extended, put_entry}
+use Rattle.bl_branch.specs.declared.place.Place.{Place}
+use Rattle.bl_search.specs.Places.{PutsAt}
 use Rattle.bl_tree.specs.Answers.{born_for}
 use Rattle.bl_node.specs.declared.limits.Limits.{Limits}
 use Rattle.bl_search.specs.declared.search.Turn.{Turn}
 use Rattle.bl_search.specs.declared.search.Turn.TheVariants.{Worked, Done, Spent}
 use Rattle.bl_search.specs.declared.search.EndedSearch.{EndedSearch}
 
--- the serial numbers of the cuts that seat 0 has added are below this one
-abbrev pub AreSerialsBelow : ℕ → List Entry → Type 0
-AreSerialsBelow serial past = All (λ id. id.seat ≡ 0 → id.serial < serial) (ids_added past)
+-- the serial numbers of the cuts that the seat has added are below this one
+abbrev pub AreSerialsBelow : ℕ → ℕ → List Entry → Type 0
+AreSerialsBelow seat serial past = All (λ id. id.seat ≡ seat → id.serial < serial) (ids_added past)
 
--- what the work on a node at this depth may do, where each depth that the span divides is stored whole, with serial numbers from this one on
-pub record AreLimitsAt (span depth serial : ℕ) (limits : Limits) : Type 0 where
-  pub new_cuts : limits.new_cuts ≡ most_new_cuts depth
+-- what a seat's work on a node at this depth may do, where each depth that the span divides is stored whole, with serial
+-- numbers from this one on
+pub record AreLimitsAt (span depth seat serial : ℕ) (limits : Limits) : Type 0 where
+  pub few_cuts : limits.new_cuts ≤ most_new_cuts depth
+  pub room : serial + limits.new_cuts < 2 ^ 32
   pub explicit : limits.explicit ≡ (depth + 1) % span == 0
-  pub seat : limits.seat ≡ 0
+  pub seat_is : limits.seat ≡ seat
   pub serial_is : limits.serial ≡ serial
+
+-- the lease of a seat stands in this legal tree, and the serial numbers from this one on are free for the seat's cuts
+pub record IsWorkable (p : Program) (span seat serial : ℕ) (lease : LeaseView) (t : TreeView) : Type 0 where
+  pub legal : IsLegalTree t
+  pub problem : t.problem ≡ p
+  pub span_is : t.settings.span ≡ span
+  pub leased : IsLeaseOf t seat lease
+  pub serials : AreSerialsBelow seat serial (past_of t)
+
+-- the outcome may be put in here; then the serial numbers from this one on are free, and it splits at a place that P allows
+pub record IsWorkedOut (P : Desc Cut → Place → Type 0) (p : Program) (seat serial : ℕ) (lease : LeaseView) (o : Outcome) (t : TreeView) : Type 0 where
+  pub fits : IsPutFor t seat lease o
+  pub serials : AreSerialsBelow seat serial (past_of (extended t (put_entry seat lease.id o)))
+  pub places : PutsAt P p (past_of t) (put_entry seat lease.id o)
 
 -- no node is out, none may be freed, and each entry is by seat 0, which has tidied
 pub record IsBetweenTurns (t : TreeView) : Type 0 where
@@ -89,7 +109,7 @@ pub record HasWorked (old : TreeView) (count : ℕ) (new : TreeView) : Type 0 wh
   pub count_grew : count ≤ splits_of 0 (past_of old) + 1
 
 abbrev pub EndsTurn : TreeView → Turn → TreeView → Type 0
-EndsTurn old (Worked count) new = HasWorked old count new
+EndsTurn old (Worked count serial) new = HasWorked old count new × AreSerialsBelow 0 serial (past_of new)
 EndsTurn old Done new = (new ≡ old) × (take_reply old.problem old.settings (past_of old) ≡ says_done)
 EndsTurn old Spent new = (new ≡ old) × (take_reply old.problem old.settings (past_of old) ≡ says_spent)
 
@@ -112,16 +132,18 @@ abbrev pub last_reply : Bool → Reply
 last_reply true = says_spent
 last_reply false = says_done
 
--- the history of a search by seat 0 that has ended: no node is out, none may be freed, and the seat has tidied
-pub record IsEndedHistory (p : Program) (s : Settings) (limited : Bool) (history : List Entry) : Type 0 where
+-- the history of a search by seat 0 and so many workers that has ended: no node is out, none may be freed, and each seat
+-- has tidied
+pub record IsEndedHistory (p : Program) (s : Settings) (workers : ℕ) (limited : Bool) (history : List Entry) : Type 0 where
   pub legal : IsLegal p s history
   pub none_out : (id : ℕ) → is_out (state_of (reverse history) id) ≡ false
-  pub seats : All (λ e. seat_of e ≡ 0) history
+  pub seats : All (λ e. seat_of e ≤ workers) history
   pub nothing_to_free : HasNothingToFree p s (reverse history)
-  pub tidied : IsTidied p s 0 (reverse history)
+  pub tidied : (seat : ℕ) → seat ≤ workers → IsTidied p s seat (reverse history)
   pub ends : EndsBy limited p s (reverse history)
 
-pub record IsSearched (p : Program) (s : Settings) (search : EndedSearch) : Type 0 where
+-- a search by seat 0 and so many workers has ended
+pub record IsSearched (p : Program) (s : Settings) (workers : ℕ) (search : EndedSearch) : Type 0 where
   pub problem : search.tree.problem ≡ p
   pub settings : search.tree.settings ≡ s
-  pub ended : IsEndedHistory p s search.limited search.tree.history
+  pub ended : IsEndedHistory p s workers search.limited search.tree.history

@@ -2,83 +2,49 @@
 ghost use Rattle.std.specs.Prelude.{◌≡◌, pos, ◌≤ℤ◌, ◌<◌, ◌≤◌, ◌+◌, ◌%◌, ◌==◌, IfOk, OnOk, IfSome};
 ghost use Rattle.bl_tree.specs.Views.{IsLeaseOf, past_of};
 ghost use Rattle.bl_tree.specs.Answers.{IsBorn};
-ghost use Rattle.bl_search.specs.Searches.{IsBetweenTurns, EndsTurn, PutsIn, IsStoredWhole, AreStoredWhole, IsFreed, HasTidied, count_with, IsSearched, IsEndedHistory, last_reply, AreSerialsBelow, AreLimitsAt};
+ghost use Rattle.bl_search.specs.Searches.{IsBetweenTurns, EndsTurn, PutsIn, IsStoredWhole, AreStoredWhole, IsFreed, HasTidied, count_with, IsSearched, IsEndedHistory, last_reply, AreSerialsBelow};
 ghost use Rattle.bl_search.specs.Places.{MayAnswer, SplitsAt};
 ghost use Rattle.bl_branch.specs.Calls.{IsRule};
 ghost use Rattle.bl_journal.specs.declared.settings.TheConstants.{LARGEST_GAP};
-ghost use Rattle.bl_journal.specs.Legality.{most_new_cuts};
 ghost use Rattle.bl_journal.specs.Replies.{take_reply};
 ghost use Rattle.bl_journal.specs.Tidying.{splits_of};
 
+use crate::leased::{Worked, work_on};
 use bl_branch::{BranchRule, Place};
 use bl_cover::Separate;
 use bl_desc::{Desc, Form};
 use bl_fixed::Fixed;
 use bl_journal::Settings;
-use bl_journal::laws::{
-    budget_holds, children_follow, cuts_were_added, leases_are_workable, newborns_are_stored,
-    replies_end_searches,
-};
-use bl_node::{Hints, Limits, work_hinted};
+use bl_journal::laws::{budget_holds, replies_end_searches};
+use bl_node::Hints;
 use bl_problem::{Cut, Problem};
-use bl_tree::{Born, Freed, Lease, Taken, Tree};
+use bl_tree::laws::plans_make_jobs;
+use bl_tree::{Born, Freed, Lease, Planned, Taken, Tree, encode};
 use std::alloc::{AllocError, Global};
 use std::sync::Arc;
 
 /// After each split whose count this divides, both children are stored whole.
 const SPLITS: u32 = 4;
 
-/// The work on a node adds at most so many cuts.
-const MOST_NEW_CUTS: u32 = 20;
-
 /// How a turn of the search ended.
 #[derive(Clone, Copy, PartialEq, Eq)]
 pub enum Turn {
-    /// A node was taken, its outcome was put in, and the tree was tidied. So many puts have split by now.
-    Worked { splits: u32 },
+    /// A node was taken, its outcome was put in, and the tree was tidied. So many puts have split by now, and serial numbers
+    /// from this one on are free for cuts.
+    Worked { splits: u32, serial: u32 },
     /// No node is live.
     Done,
     /// A live node waits, and the budget is spent.
     Spent,
 }
 
-// How many cuts the work on a node at this depth may add.
-fn new_cuts(depth: u32) -> u32
-    ensures { result ≡ most_new_cuts depth }
-{
-    if depth == 0 {
-        20
-    } else if depth <= 8 {
-        2
-    } else {
-        0
-    }
+// What was born by a put, if it split, and the first serial number that is free for cuts.
+struct Finished {
+    born: Option<Born>,
+    serial: u32,
 }
 
-// Whether the children of a node at this depth are stored whole.
-fn bears_whole(depth: u32, span: u32) -> bool
-    requires { 0 < span }
-    ensures { result ≡ ((depth + 1) % span == 0) }
-{
-    (depth as u64 + 1) % (span as u64) == 0
-}
-
-// What the work on the node of a lease may do.
-fn limits_of(problem: &Problem, lease: &Lease, span: u32, serial: u32) -> Limits
-    requires { 0 < span }
-    ensures { AreLimitsAt span lease.now.depth serial result }
-{
-    let size = problem.columns().len() + problem.rows().len();
-    Limits {
-        pivots: 4 * (size as u32 + 200) + 100,
-        new_cuts: new_cuts(lease.depth()),
-        explicit: bears_whole(lease.depth(), span),
-        seat: 0,
-        serial,
-    }
-}
-
-// Works on the node of a lease and puts the outcome in, or hands the node back where there is no memory. The answer is what was born.
+// Works on the node of a lease and puts the outcome in, or hands the node back where there is no memory.
 fn finish<F: Fn(&Desc<Cut>, &[Fixed]) -> Place, S: Separate>(
     alloc: Global,
     problem: &Problem,
@@ -89,37 +55,26 @@ fn finish<F: Fn(&Desc<Cut>, &[Fixed]) -> Place, S: Separate>(
     hints: &mut Hints,
     span: u32,
     serial: u32,
-) -> Result<Option<Born>, AllocError>
+) -> Result<Finished, AllocError>
     requires problem { tree.old.problem ≡ problem.now }
     requires span { tree.old.settings.span ≡ span }
     requires some_span { 0 < span }
     requires leased { IsLeaseOf tree.old 0 lease }
     requires rule { IsRule F.Fn rule.now.closure }
-    requires serials { AreSerialsBelow serial (past_of tree.old) }
-    requires room { serial ≤ 2000000 }
+    requires serials { AreSerialsBelow 0 serial (past_of tree.old) }
     requires places { SplitsAt (MayAnswer F.Fn rule.now.closure) problem.now (past_of tree.old) }
-    ensures put { IfOk result (λ born. PutsIn tree.old lease born tree.new) }
-    ensures serials { IfOk result (λ born. AreSerialsBelow (serial + 20) (past_of tree.new)) }
-    ensures places { IfOk result (λ born. SplitsAt (MayAnswer F.Fn rule.now.closure) problem.now (past_of tree.new)) }
+    ensures put { IfOk result (λ f. PutsIn tree.old lease f.born tree.new) }
+    ensures serials { IfOk result (λ f. AreSerialsBelow 0 f.serial (past_of tree.new)) }
+    ensures places { IfOk result (λ f. SplitsAt (MayAnswer F.Fn rule.now.closure) problem.now (past_of tree.new)) }
 {
-    leases_are_workable();
-    children_follow();
-    newborns_are_stored();
-    cuts_were_added();
-    let _columns = problem.columns();
     let _journal = tree.journal();
-    let limits = limits_of(problem, &lease, span, serial);
-    match work_hinted(
-        alloc,
-        problem,
-        lease.desc(),
-        lease.cutoff(),
-        rule,
-        separator,
-        &limits,
-        hints,
+    match work_on(
+        alloc, problem, &lease, rule, separator, hints, span, 0, serial,
     ) {
-        Ok(outcome) => Ok(tree.put(0, lease, outcome)),
+        Ok(Worked { outcome, serial }) => {
+            let born = tree.put(0, lease, outcome);
+            Ok(Finished { born, serial })
+        }
         Err(error) => {
             tree.back(0, lease);
             Err(error)
@@ -127,27 +82,36 @@ fn finish<F: Fn(&Desc<Cut>, &[Fixed]) -> Place, S: Separate>(
     }
 }
 
-// Stores a node whole, unless it is freed.
-fn store_whole(tree: &mut Tree, id: u32) -> Result<(), AllocError>
+// Stores a node whole, unless it is freed. What is to be stored is made without the tree.
+fn store_whole(alloc: Global, tree: &mut Tree, id: u32) -> Result<(), AllocError>
     requires { IsBorn tree.old id }
     ensures { OnOk result (IsStoredWhole tree.old id tree.new) }
 {
-    tree.recode(0, id, Form::Explicit)?;
-    Ok(())
+    plans_make_jobs();
+    match tree.plan(id, Form::Explicit)? {
+        Planned::Chain(plan) => {
+            let job = encode(alloc, &plan)?;
+            tree.install(0, job)?;
+            Ok(())
+        }
+        Planned::Gone => Ok(()),
+        Planned::Same => Ok(()),
+        Planned::Fixed => Ok(()),
+    }
 }
 
 // Stores both children whole, unless they are freed.
-fn store_both(tree: &mut Tree, born: Born) -> Result<(), AllocError>
+fn store_both(alloc: Global, tree: &mut Tree, born: Born) -> Result<(), AllocError>
     requires left { IsBorn tree.old born.left }
     requires right { IsBorn tree.old born.right }
     ensures { OnOk result (AreStoredWhole tree.old born tree.new) }
 {
-    store_whole(tree, born.left)?;
-    store_whole(tree, born.right)
+    store_whole(alloc, tree, born.left)?;
+    store_whole(alloc, tree, born.right)
 }
 
-// Frees nodes until none may be freed.
-fn free_all(tree: &mut Tree) -> Result<(), AllocError>
+/// Frees nodes by seat 0 until none may be freed. `AllocError` where there is no memory.
+pub fn free_all(tree: &mut Tree) -> Result<(), AllocError>
     ensures { OnOk result (IsFreed tree.old tree.new) }
 {
     while let Freed::Chain(_) = tree.free(0)? {}
@@ -155,7 +119,7 @@ fn free_all(tree: &mut Tree) -> Result<(), AllocError>
 }
 
 // Tidies up after a put: after each fourth split both children are stored whole; then nodes are freed until none may be. The answer is how many puts have split.
-fn tidy(tree: &mut Tree, born: Option<Born>, splits: u32) -> Result<u32, AllocError>
+fn tidy(alloc: Global, tree: &mut Tree, born: Option<Born>, splits: u32) -> Result<u32, AllocError>
     requires left { IfSome born (λ b. IsBorn tree.old b.left) }
     requires right { IfSome born (λ b. IsBorn tree.old b.right) }
     requires few { splits ≤ 100000 }
@@ -166,7 +130,7 @@ fn tidy(tree: &mut Tree, born: Option<Born>, splits: u32) -> Result<u32, AllocEr
     if let Some(born) = born {
         count += 1;
         if count % SPLITS == 0 {
-            store_both(tree, born)?;
+            store_both(alloc, tree, born)?;
         }
     }
     free_all(tree)?;
@@ -192,20 +156,18 @@ fn take_turn<F: Fn(&Desc<Cut>, &[Fixed]) -> Place, S: Separate>(
     requires splits { splits ≡ splits_of 0 (past_of tree.old) }
     requires few { splits ≤ 100000 }
     requires rule { IsRule F.Fn rule.now.closure }
-    requires serials { AreSerialsBelow serial (past_of tree.old) }
-    requires room { serial ≤ 2000000 }
+    requires serials { AreSerialsBelow 0 serial (past_of tree.old) }
     requires places { SplitsAt (MayAnswer F.Fn rule.now.closure) problem.now (past_of tree.old) }
     ensures turn { IfOk result (λ turn. EndsTurn tree.old turn tree.new) }
-    ensures serials { IfOk result (λ turn. AreSerialsBelow (serial + 20) (past_of tree.new)) }
     ensures places { IfOk result (λ turn. SplitsAt (MayAnswer F.Fn rule.now.closure) problem.now (past_of tree.new)) }
 {
     match tree.take(0)? {
         Taken::Node(lease) => {
-            let born = finish(
+            let Finished { born, serial } = finish(
                 alloc, problem, tree, lease, rule, separator, hints, span, serial,
             )?;
-            let splits = tidy(tree, born, splits)?;
-            Ok(Turn::Worked { splits })
+            let splits = tidy(alloc, tree, born, splits)?;
+            Ok(Turn::Worked { splits, serial })
         }
         Taken::Idle => Ok(Turn::Done),
         Taken::Done => Ok(Turn::Done),
@@ -226,7 +188,7 @@ fn end(tree: Tree, limited: bool) -> EndedSearch
     requires reply { take_reply tree.problem tree.settings (past_of tree) ≡ last_reply limited }
     ensures tree { result.tree ≡ tree }
     ensures limited { result.limited ≡ limited }
-    ensures ended { IsEndedHistory tree.problem tree.settings limited tree.history }
+    ensures ended { IsEndedHistory tree.problem tree.settings 0 limited tree.history }
 {
     replies_end_searches();
     let _journal = tree.journal();
@@ -249,7 +211,7 @@ pub fn search_tree<F: Fn(&Desc<Cut>, &[Fixed]) -> Place, S: Separate>(
     requires some_gap { pos 0 ≤ℤ settings.gap }
     requires few_gaps { settings.gap ≤ℤ LARGEST_GAP }
     requires rule { IsRule F.Fn rule.now.closure }
-    ensures searched { IfOk result (λ search. IsSearched problem.now.value settings search) }
+    ensures searched { IfOk result (λ search. IsSearched problem.now.value settings 0 search) }
     ensures places { IfOk result (λ search. SplitsAt (MayAnswer F.Fn rule.now.closure) problem.now.value (past_of search.tree)) }
 {
     budget_holds();
@@ -257,9 +219,9 @@ pub fn search_tree<F: Fn(&Desc<Cut>, &[Fixed]) -> Place, S: Separate>(
     // A root that is not live is freed before the first take.
     free_all(&mut tree)?;
     let mut splits = 0;
+    let mut serial = 0;
     let mut hints = Hints::new(alloc);
     for turn in 0..settings.nodes + 1 {
-        let serial = MOST_NEW_CUTS * turn;
         match take_turn(
             alloc,
             problem,
@@ -271,7 +233,13 @@ pub fn search_tree<F: Fn(&Desc<Cut>, &[Fixed]) -> Place, S: Separate>(
             splits,
             serial,
         )? {
-            Turn::Worked { splits: count } => splits = count,
+            Turn::Worked {
+                splits: count,
+                serial: next,
+            } => {
+                splits = count;
+                serial = next;
+            }
             Turn::Done => return Ok(end(tree, false)),
             Turn::Spent => return Ok(end(tree, true)),
         }

@@ -1,4 +1,4 @@
-use Rattle.std.proofs.Common.{◌≡◌, ◌≤◌, ◌*◌}
+use Rattle.std.proofs.Common.{◌≡◌, ◌≤◌}
 use Rattle.bl_journal.specs.States.{used_of}
 use Rattle.bl_journal.specs.Tidying.{splits_of}
 use Rattle.bl_tree.specs.Views.{past_of}
@@ -13,7 +13,7 @@ invariant-loop-turn g l = record {
   settings : l.tree.settings ≡ l.settings;
   used : used_of (past_of l.tree) ≡ l.turn;
   splits : l.splits ≡ splits_of 0 (past_of l.tree);
-  serials : AreSerialsBelow (20 * l.turn) (past_of l.tree);
+  serials : AreSerialsBelow 0 l.serial (past_of l.tree);
   places : SplitsAt (MayAnswer g.F.Fn l.rule.closure) l.initial.tree.problem (past_of l.tree);
   few : l.splits ≤ l.turn;
 }
