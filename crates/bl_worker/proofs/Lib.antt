@@ -1,0 +1,8 @@
+mod Steps
+mod Rounds
+mod Serials
+mod Splitting
+mod Handing
+mod Ending
+mod Joining
+mod Searching

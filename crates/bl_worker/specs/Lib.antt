@@ -1,0 +1,5 @@
+pub mod Splits
+pub mod Loops
+pub mod Jobs
+pub mod Ends
+pub mod Searches
