@@ -1,6 +1,6 @@
 -- The texts that a run writes.
 use Rattle.std.specs.Prelude.{ℕ, Bool, true, false, List, [], ◌∷◌, ◌++◌, ℤ, pos, codes, ◌==◌, if◌then◌else◌, Option, Some, None}
-use Rattle.std.specs.Fmt.{signed_decimal}
+use Rattle.std.specs.Fmt.{decimal, signed_decimal}
 use Rattle.bl_num.specs.Texts.{text_of}
 use Rattle.bl_problem.specs.declared.problem.Column.{Column}
 use Rattle.bl_problem.specs.Program.{Program}
@@ -65,6 +65,10 @@ what_name NoEnd = codes "NoEnd"
 -- the line that tells a file's first fault
 abbrev pub model_line : Fault → List ℕ
 model_line f = codes "fault model line " ++ signed_decimal (pos f.line) ++ codes " " ++ what_name f.what ++ codes "\n"
+
+-- `held N`: how many entries the stored pieces have
+abbrev pub held_line : ℕ → List ℕ
+held_line n = codes "held " ++ decimal n ++ codes "\n"
 
 abbrev pub long_line : List ℕ
 long_line = codes "fault model long\n"

@@ -3,6 +3,8 @@
 
 mod answer;
 mod fault;
+mod held;
 
 pub use answer::answer_text;
 pub use fault::model_line;
+pub use held::held_line;

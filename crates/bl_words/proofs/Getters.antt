@@ -4,9 +4,9 @@ use Rattle.std.specs.Prelude.{⊤, option_map, option_and_then, if◌then◌else
 use Rattle.std.specs.List.{fold, list_any}
 use Rattle.std.specs.Str.{bytes_eq}
 use Rattle.std.proofs.lemmas.Bool.{or_parts}
-use Rattle.bl_words.specs.Words.{Options, Text, Use, and_then_uses, is_named, kind_in, on_said, said_by, uses_from, value_of, after_hyphens, said_in}
+use Rattle.bl_words.specs.Words.{Options, Text, Use, and_then_uses, is_named, kind_in, on_said, said_by, uses_from, value_of, after_hyphens, said_in, has}
 use Rattle.bl_words.proofs.Steps.{built_rule, row_of_use, rows, rules, same_text, some≢none, some_same}
-use Rattle.clap.specs.Walk.{Row, first_of, has_row, with_default, with_values}
+use Rattle.clap.specs.Walk.{Row, first_of, has_row, one_of, row_text, with_default, with_values}
 use Rattle.clap.specs.declared.builder.value_parser.Reading.TheVariants as reading
 use Rattle.clap.specs.declared.parser.matches.ValueSource.TheVariants.{DefaultValue}
 use Rattle.clap.proofs.WalkLemmas.{find-map}
@@ -147,3 +147,18 @@ value_at t n (Some (m, None)) no_flag suits valued = absurd (valued (suits (m, N
 pub value_read : (t : Options) (n : Text) (us : List Use) → AllSuit t us → flag_default t n ≡ None → kind_in t n ≢ Some false → first_of n (final t us) ≡ value_of n us
 value_read t n us s no_flag valued =
     ap (option_and_then (λ (r : Row). slice_get r.values 0)) (final_row t n us) ∙ value_at t n (find (is_named n) us) no_flag (λ u. found_suits t n us u s) valued
+
+flag_at : (t : Options) (n : Text) (o : Option Use) (b : Bool) → is_some o ≡ b → flag_default t n ≡ Some (default_row n) → ((u : Use) → o ≡ Some u → kind_in t n ≡ Some (is_some u.1))
+    → kind_in t n ≡ Some false
+    → option_and_then row_text (or_else_row (option_map row_of_use o) (flag_default t n)) ≡ Some (if b then codes "true" else codes "false")
+flag_at t n None true is flag suits k = absurd (true≢false (sym is))
+flag_at t n None false is flag suits k = rw flag refl
+flag_at t n (Some u) false is flag suits k = absurd (true≢false is)
+flag_at t n (Some (m, None)) true is flag suits k = refl
+flag_at t n (Some (m, Some v)) true is flag suits k = absurd (true≢false (some_same true false (sym (suits (m, Some v) refl) ∙ k)))
+
+-- a flag reads as `true` where it stands among the words, and else as `false`
+pub flag_read : (t : Options) (n : Text) (us : List Use) → AllSuit t us → flag_default t n ≡ Some (default_row n) → kind_in t n ≡ Some false
+    → one_of n (final t us) ≡ Some (if has n us then codes "true" else codes "false")
+flag_read t n us s flag k =
+    ap (option_and_then row_text) (final_row t n us) ∙ flag_at t n (find (is_named n) us) (has n us) (any_found (is_named n) us) flag (λ u. found_suits t n us u s) k

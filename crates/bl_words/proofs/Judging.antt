@@ -1,4 +1,5 @@
 -- What each answer of the parser says of the words.
+use Rattle.std.specs.Prelude.{if◌then◌else◌}
 use Rattle.std.proofs.Common.{◌≡◌, ◌≢◌, ◌∙◌, ◌&&◌, inl, inr, Bool, true, false, refl, sym, ap, subst, List, [], ◌∷◌, Option, Some, None, codes, true≢false}
 use Rattle.std.specs.List.{fold, list_any}
 use Rattle.std.specs.Str.{bytes_eq}
@@ -11,14 +12,14 @@ use Rattle.bl_words.proofs.Steps.{rules, rows, same_text, some≢none, some_same
 use Rattle.bl_words.proofs.Walked.{rest, two_hyphens}
 use Rattle.bl_words.proofs.Whole.{Comes, HasNoStop, comes, run}
 use Rattle.bl_words.proofs.Spelled.{Spells, all_plain, complete, is_plain_use, is_plain_text, sound}
-use Rattle.bl_words.proofs.Getters.{AllSuit, flag_default, uses_suit, value_read}
+use Rattle.bl_words.proofs.Getters.{AllSuit, flag_default, flag_read, uses_suit, value_read}
 use Rattle.bl_words.proofs.Meaning.{meant_plain}
 use Rattle.clap.specs.Faults.{fault_of, is_simple_and_free}
 use Rattle.clap.specs.Words.{first_value, is_simple, rows_of}
 use Rattle.clap.specs.declared.parser.matches.Found.{Found}
 use Rattle.clap.proofs.WalkLemmas.{first_value-rows}
 use Rattle.clap.specs.Simple.{matches_of}
-use Rattle.clap.specs.Walk.{Row, first_of, with_default}
+use Rattle.clap.specs.Walk.{Row, first_of, one_of, with_default}
 
 -- ---- a list with the word `--`
 
@@ -133,6 +134,10 @@ gap_value : (one : Bool) → IsValue one (codes "gap")
 gap_value true = is_value true (codes "gap") refl refl
 gap_value false = is_value false (codes "gap") refl refl
 
+cuts_value : (one : Bool) → IsValue one (codes "cuts")
+cuts_value true = is_value true (codes "cuts") refl refl
+cuts_value false = is_value false (codes "cuts") refl refl
+
 gen_value : (one : Bool) → IsValue one (codes "gen")
 gen_value true = is_value true (codes "gen") refl refl
 gen_value false = is_value false (codes "gen") refl refl
@@ -152,36 +157,58 @@ module _ (one : Bool) (words : List Text) (k : Taken one words) (rs : List Row) 
   read_value : (n : Text) → IsValue one n → first_of n rs ≡ value_of n k.uses
   read_value n v = ap (first_of n) (is ∙ k.rows_are) ∙ value_read (options one) n k.uses suit v.0 v.1
 
+  write_flag : (b : Bool) → (flag_default (options b) (codes "write") ≡ flag_default (options true) (codes "write")) × (kind_in (options b) (codes "write") ≡ Some false)
+  write_flag true = (refl, refl)
+  write_flag false = (refl, refl)
+
+  log_flag : (b : Bool) → (flag_default (options b) (codes "log") ≡ flag_default (options true) (codes "log")) × (kind_in (options b) (codes "log") ≡ Some false)
+  log_flag true = (refl, refl)
+  log_flag false = (refl, refl)
+
+  pub read_write_flag : one_of (codes "write") rs ≡ Some (if has (codes "write") k.uses then codes "true" else codes "false")
+  read_write_flag = ap (one_of (codes "write")) (is ∙ k.rows_are) ∙ flag_read (options one) (codes "write") k.uses suit (write_flag one).0 (write_flag one).1
+
+  pub read_log_flag : one_of (codes "log") rs ≡ Some (if has (codes "log") k.uses then codes "true" else codes "false")
+  read_log_flag = ap (one_of (codes "log")) (is ∙ k.rows_are) ∙ flag_read (options one) (codes "log") k.uses suit (log_flag one).0 (log_flag one).1
+
   -- the matches ask for what the words ask for
-  pub asked_of_words : (w : Wish) → Asks (λ n. first_of n rs) w → Asks (λ n. value_of n k.uses) w
-  asked_of_words w a = record {
+  pub asked_of_words : (write log : Bool) (w : Wish) → Asks (λ n. first_of n rs) write log w → Asks (λ n. value_of n k.uses) write log w
+  asked_of_words write log w a = record {
     workers = rw (← read_value (codes "workers") (workers_value one)) a.workers;
     nodes = rw (← read_value (codes "nodes") (nodes_value one)) a.nodes;
     span = rw (← read_value (codes "span") (span_value one)) a.span;
     order = rw (← read_value (codes "order") (order_value one)) a.order;
     half = rw (← read_value (codes "branch") (branch_value one)) a.half;
     gap = rw (← read_value (codes "gap") (gap_value one)) a.gap;
+    cuts = rw (← read_value (codes "cuts") (cuts_value one)) a.cuts;
     unscaled = a.unscaled;
     generate = rw (← read_value (codes "gen") (gen_value one), ← read_value (codes "columns") (columns_value one), ← read_value (codes "rows") (rows_value one)) a.generate;
+    writes = a.writes;
+    logs = a.logs;
+    apart = a.apart;
   }
 
-  pub asked_of_matches : (w : Wish) → Asks (λ n. value_of n k.uses) w → Asks (λ n. first_of n rs) w
-  asked_of_matches w a = record {
+  pub asked_of_matches : (write log : Bool) (w : Wish) → Asks (λ n. value_of n k.uses) write log w → Asks (λ n. first_of n rs) write log w
+  asked_of_matches write log w a = record {
     workers = rw (read_value (codes "workers") (workers_value one)) a.workers;
     nodes = rw (read_value (codes "nodes") (nodes_value one)) a.nodes;
     span = rw (read_value (codes "span") (span_value one)) a.span;
     order = rw (read_value (codes "order") (order_value one)) a.order;
     half = rw (read_value (codes "branch") (branch_value one)) a.half;
     gap = rw (read_value (codes "gap") (gap_value one)) a.gap;
+    cuts = rw (read_value (codes "cuts") (cuts_value one)) a.cuts;
     unscaled = a.unscaled;
     generate = rw (read_value (codes "gen") (gen_value one), read_value (codes "columns") (columns_value one), read_value (codes "rows") (rows_value one)) a.generate;
+    writes = a.writes;
+    logs = a.logs;
+    apart = a.apart;
   }
 
 -- two readings of one list are one
-pub one_reading : (one : Bool) (words : List Text) (w : Wish) (k : Taken one words) (m : Means one words w) → Asks (λ n. value_of n k.uses) w
+pub one_reading : (one : Bool) (words : List Text) (w : Wish) (k : Taken one words) (m : Means one words w) → Asks (λ n. value_of n k.uses) (has (codes "write") k.uses) (has (codes "log") k.uses) w
 one_reading one words w k m =
     let same : m.uses ≡ k.uses = some_same _ _ (sym m.spelled.uses_are ∙ k.spelled.uses_are) in
-    subst (λ (us : List Use). Asks (λ n. value_of n us) w) same m.asked
+    subst (λ (us : List Use). Asks (λ n. value_of n us) (has (codes "write") us) (has (codes "log") us) w) same m.asked
 
 pub simple_and_free : (one : Bool) → is_simple_and_free (app_for (options one)) ≡ true
 simple_and_free true = refl
@@ -194,14 +221,25 @@ simple false = refl
 same_values : (f : Found) → first_value f ≡ (λ n. first_of n (rows_of f))
 same_values f = λ i n. first_value-rows f n i
 
+pub flag_result : (b r : Bool) (text : Option Text) → text ≡ Some (if b then codes "true" else codes "false") → (text ≡ Some (codes "true") → r ≡ true) → (text ≡ Some (codes "false") → r ≡ false) → r ≡ b
+flag_result true r text is yes_says no_says = yes_says is
+flag_result false r text is yes_says no_says = no_says is
+
 -- what a taken list asks for, by what the getters read
-module _ (one : Bool) (words : List Text) (k : Taken one words) (f : Found) (is : rows_of f ≡ matches_of (app_for (options one)) words) where
-  pub means : (w : Wish) → Asks (first_value f) w → Means one words w
+module _ (one : Bool) (words : List Text) (k : Taken one words) (f : Found) (is : rows_of f ≡ matches_of (app_for (options one)) words)
+    (write log : Bool) (write_is : write ≡ has (codes "write") k.uses) (log_is : log ≡ has (codes "log") k.uses) where
+  pub means : (w : Wish) → Asks (first_value f) write log w → Means one words w
   means w a = record {
     uses = k.uses;
     spelled = k.spelled;
-    asked = asked_of_words one words k (rows_of f) is w (subst (λ (value : Text → Option Text). Asks value w) (same_values f) a);
+    asked = subst (λ (b : Bool). Asks (λ n. value_of n k.uses) b (has (codes "log") k.uses) w) write_is
+        (subst (λ (b : Bool). Asks (λ n. value_of n k.uses) write b w) log_is
+        (asked_of_words one words k (rows_of f) is write log w (subst (λ (value : Text → Option Text). Asks value write log w) (same_values f) a)));
   }
 
-  pub asks : (w : Wish) → Means one words w → Asks (first_value f) w
-  asks w m = subst (λ (value : Text → Option Text). Asks value w) (sym (same_values f)) (asked_of_matches one words k (rows_of f) is w (one_reading one words w k m))
+  pub asks : (w : Wish) → Means one words w → Asks (first_value f) write log w
+  asks w m =
+      let written : Asks (λ n. value_of n k.uses) write (has (codes "log") k.uses) w =
+      subst (λ (b : Bool). Asks (λ n. value_of n k.uses) b (has (codes "log") k.uses) w) (sym write_is) (one_reading one words w k m) in
+      let flagged : Asks (λ n. value_of n k.uses) write log w = subst (λ (b : Bool). Asks (λ n. value_of n k.uses) write b w) (sym log_is) written in
+      subst (λ (value : Text → Option Text). Asks value write log w) (sym (same_values f)) (asked_of_matches one words k (rows_of f) is write log w flagged)

@@ -4,10 +4,11 @@ use Rattle.std.specs.Prelude.{⊤, option_map, option_and_then, find}
 use Rattle.std.specs.Str.{bytes_eq}
 use Rattle.std.proofs.lemmas.Bool.{and_parts, and_from, not-true, or_parts, false_from_ne_true, leb-true, eqb-true, not_from_false}
 use Rattle.bl_words.specs.Words.{Options, Text, Use, differ, differ_after, has, digits_from, in_range, is_digit, is_named, kind_in, number_in, number_or, options, value_of}
-use Rattle.bl_words.specs.Wishes.{Asks, Means, generate_of, half_of, order_of, sizes_of}
+use Rattle.bl_words.specs.Wishes.{Asks, Means, cuts_of, generate_of, half_of, order_of, sizes_of}
 use Rattle.bl_words.specs.declared.wish.Wish.{Wish}
 use Rattle.bl_words.specs.declared.wish.GenWish.{GenWish}
 use Rattle.bl_pool.specs.declared.key.Order.{Order}
+use Rattle.bl_cover.specs.declared.separator.CutKinds.{CutKinds}
 use Rattle.bl_words.proofs.Steps.{own_text, same_text, some≢none, some_same}
 use Rattle.bl_words.proofs.Spelled.{all_plain, is_plain_text, is_plain_use}
 use Rattle.bl_words.proofs.Getters.{AllSuit, uses_suit}
@@ -49,6 +50,15 @@ half_plain o v w e is = go (bytes_eq v (codes "half")) (bytes_eq v (codes "fract
     go true d one two e' = word_plain v (codes "half") one refl
     go false true one two e' = word_plain v (codes "fraction") two refl
     go false false one two e' = absurd (some≢none w (sym (rw (one, two) at e')))
+
+cuts_plain : (o : Option Text) (v : Text) (w : CutKinds) → cuts_of o ≡ Some w → o ≡ Some v → is_plain_text v ≡ true
+cuts_plain o v w e is = go (bytes_eq v (codes "rows")) (bytes_eq v (codes "covers")) (bytes_eq v (codes "both")) refl refl refl (subst (λ (x : Option Text). cuts_of x ≡ Some w) is e)
+  where
+    go : (r c b : Bool) → bytes_eq v (codes "rows") ≡ r → bytes_eq v (codes "covers") ≡ c → bytes_eq v (codes "both") ≡ b → cuts_of (Some v) ≡ Some w → is_plain_text v ≡ true
+    go true c b one two three e' = word_plain v (codes "rows") one refl
+    go false true b one two three e' = word_plain v (codes "covers") two refl
+    go false false true one two three e' = word_plain v (codes "both") three refl
+    go false false false one two three e' = absurd (some≢none w (sym (rw (one, two, three) at e')))
 
 start_plain : (o c r : Option Text) (v : Text) (g : Option GenWish) → generate_of o c r ≡ Some g → o ≡ Some v → is_plain_text v ≡ true
 start_plain o c r v g e is = go (number_in 0 2147483647 v) refl (subst (λ (x : Option Text). generate_of x c r ≡ Some g) is e)
@@ -106,8 +116,8 @@ by_each P ((m, false) ∷ t) n each e = go (bytes_eq m n) e (by_each P t n each)
 abbrev HasPlain : (Text → Option Text) → Text → Type 0
 HasPlain value n = (v : Text) → value n ≡ Some v → is_plain_text v ≡ true
 
-shared_plain : (value : Text → Option Text) (w : Wish) → Asks value w → EachValued (HasPlain value) (options true)
-shared_plain value w a = (
+shared_plain : (value : Text → Option Text) (write log : Bool) (w : Wish) → Asks value write log w → EachValued (HasPlain value) (options true)
+shared_plain value write log w a = (
   (λ v. or_plain 0 100000 20000 w.settings.nodes _ v a.nodes),
   (
     (λ v. or_plain 1 64 8 w.settings.span _ v a.span),
@@ -118,10 +128,13 @@ shared_plain value w a = (
         (
           (λ v. or_plain 0 1000000000 0 w.gap _ v a.gap),
           (
-            (λ v. start_plain (value (codes "gen")) (value (codes "columns")) (value (codes "rows")) v w.generate a.generate),
+            (λ v. cuts_plain _ v w.cuts a.cuts),
             (
-              (λ v. columns_plain (value (codes "gen")) (value (codes "columns")) (value (codes "rows")) v w.generate a.generate),
-              ((λ v. rows_plain (value (codes "gen")) (value (codes "columns")) (value (codes "rows")) v w.generate a.generate), tt),
+              (λ v. start_plain (value (codes "gen")) (value (codes "columns")) (value (codes "rows")) v w.generate a.generate),
+              (
+                (λ v. columns_plain (value (codes "gen")) (value (codes "columns")) (value (codes "rows")) v w.generate a.generate),
+                ((λ v. rows_plain (value (codes "gen")) (value (codes "columns")) (value (codes "rows")) v w.generate a.generate), tt),
+              ),
             ),
           ),
         ),
@@ -130,9 +143,9 @@ shared_plain value w a = (
   ),
 )
 
-each_plain : (one : Bool) (value : Text → Option Text) (w : Wish) → Asks value w → EachValued (HasPlain value) (options one)
-each_plain true value w a = shared_plain value w a
-each_plain false value w a = (λ v. or_plain 1 64 1 w.workers _ v a.workers, shared_plain value w a)
+each_plain : (one : Bool) (value : Text → Option Text) (write log : Bool) (w : Wish) → Asks value write log w → EachValued (HasPlain value) (options one)
+each_plain true value write log w a = shared_plain value write log w a
+each_plain false value write log w a = (λ v. or_plain 1 64 1 w.workers _ v a.workers, shared_plain value write log w a)
 
 find_past : (n : Text) (before : List Use) (u : Use) (more : List Use) → has n before ≡ false → bytes_eq u.0 n ≡ true → find (is_named n) (before ++ u ∷ more) ≡ Some u
 find_past n [] u more new named = rw named refl
@@ -157,4 +170,4 @@ more_plain t us before (u ∷ more) all s differ each =
 pub meant_plain : (one : Bool) (words : List Text) (w : Wish) (m : Means one words w) → all_plain m.uses ≡ true
 meant_plain one words w m =
     more_plain (options one) m.uses [] m.uses refl (uses_suit (options one) words None m.uses tt m.spelled.uses_are) m.spelled.once
-    (λ n. by_each (HasPlain (λ name. value_of name m.uses)) (options one) n (each_plain one _ w m.asked))
+    (λ n. by_each (HasPlain (λ name. value_of name m.uses)) (options one) n (each_plain one _ _ _ w m.asked))

@@ -3,8 +3,9 @@ use Rattle.std.proofs.Common.{ℤ, ◌≡◌, ◌∙◌, ◌≤◌, ◌&&◌, �
 use Rattle.std.specs.Prelude.{IfSome}
 use Rattle.std.proofs.lemmas.Bool.{leb-true}
 use Rattle.bl_pool.specs.declared.key.Order.{Order}
+use Rattle.bl_cover.specs.declared.separator.CutKinds.{CutKinds}
 use Rattle.bl_journal.specs.declared.settings.Settings.{Settings}
-use Rattle.bl_words.specs.Words.{Text, Use, digits_from, in_range, number_in, number_or, value_of}
+use Rattle.bl_words.specs.Words.{Text, Use, digits_from, in_range, has, number_in, number_or, value_of}
 use Rattle.bl_words.specs.Wishes.{AreSizes, Asks, IsWithinRanges, Means, generate_of, sizes_of}
 use Rattle.bl_words.specs.declared.wish.Wish.{Wish}
 use Rattle.bl_words.specs.declared.wish.GenWish.{GenWish}
@@ -50,8 +51,8 @@ generate_kept (Some start) columns rows g e = sizes_kept (number_in 0 2147483647
     (λ n. or_kept 1 1000 30 n columns (omega arith, omega arith))
     (λ n. or_kept 0 1000 10 n rows (omega arith, omega arith)) e
 
-pub within_ranges : (value : Text → Option Text) (w : Wish) → Asks value w → IsWithinRanges w
-within_ranges value w a =
+pub within_ranges : (value : Text → Option Text) (write log : Bool) (w : Wish) → Asks value write log w → IsWithinRanges w
+within_ranges value write log w a =
     let workers = or_kept 1 64 1 w.workers (value (codes "workers")) (omega arith, omega arith) a.workers in
     let span = or_kept 1 64 8 w.settings.span (value (codes "span")) (omega arith, omega arith) a.span in
     record {
@@ -75,24 +76,30 @@ settings_same s t nodes span order gap =
     ap (λ n. settings n s.span s.order s.gap) nodes ∙ ap (λ n. settings t.nodes n s.order s.gap) span
     ∙ ap (λ o. settings t.nodes t.span o s.gap) order ∙ ap (λ g. settings t.nodes t.span t.order g) gap
 
-abbrev wish : ℕ → Settings → Bool → ℕ → Option GenWish → Wish
-wish workers settings half gap generate = record { workers = workers; settings = settings; half = half; gap = gap; generate = generate }
+abbrev wish : ℕ → Settings → Bool → ℕ → CutKinds → Option GenWish → Bool → Bool → Wish
+wish workers settings half gap cuts generate write log =
+    record { workers = workers; settings = settings; half = half; gap = gap; cuts = cuts; generate = generate; write = write; log = log }
 
-wish_same : (v w : Wish) → v.workers ≡ w.workers → v.settings ≡ w.settings → v.half ≡ w.half → v.gap ≡ w.gap → v.generate ≡ w.generate → v ≡ w
-wish_same v w workers settings half gap generate =
-    ap (λ n. wish n v.settings v.half v.gap v.generate) workers ∙ ap (λ s. wish w.workers s v.half v.gap v.generate) settings
-    ∙ ap (λ b. wish w.workers w.settings b v.gap v.generate) half ∙ ap (λ n. wish w.workers w.settings w.half n v.generate) gap
-    ∙ ap (λ g. wish w.workers w.settings w.half w.gap g) generate
+wish_same : (v w : Wish) → v.workers ≡ w.workers → v.settings ≡ w.settings → v.half ≡ w.half → v.gap ≡ w.gap → v.cuts ≡ w.cuts → v.generate ≡ w.generate → v.write ≡ w.write → v.log ≡ w.log → v ≡ w
+wish_same v w workers settings half gap cuts generate write log =
+    ap (λ n. wish n v.settings v.half v.gap v.cuts v.generate v.write v.log) workers ∙ ap (λ s. wish w.workers s v.half v.gap v.cuts v.generate v.write v.log) settings
+    ∙ ap (λ b. wish w.workers w.settings b v.gap v.cuts v.generate v.write v.log) half ∙ ap (λ n. wish w.workers w.settings w.half n v.cuts v.generate v.write v.log) gap
+    ∙ ap (λ k. wish w.workers w.settings w.half w.gap k v.generate v.write v.log) cuts ∙ ap (λ g. wish w.workers w.settings w.half w.gap w.cuts g v.write v.log) generate
+    ∙ ap (λ b. wish w.workers w.settings w.half w.gap w.cuts w.generate b v.log) write ∙ ap (λ b. wish w.workers w.settings w.half w.gap w.cuts w.generate w.write b) log
 
-pub one_asked : (value : Text → Option Text) (v w : Wish) → Asks value v → Asks value w → v ≡ w
-one_asked value v w a b = wish_same v w
+pub one_asked : (value : Text → Option Text) (write log : Bool) (v w : Wish) → Asks value write log v → Asks value write log w → v ≡ w
+one_asked value write log v w a b = wish_same v w
     (some_same _ _ (sym a.workers ∙ b.workers))
     (settings_same v.settings w.settings (some_same _ _ (sym a.nodes ∙ b.nodes)) (some_same _ _ (sym a.span ∙ b.span)) (some_same _ _ (sym a.order ∙ b.order)) (a.unscaled ∙ sym b.unscaled))
     (some_same _ _ (sym a.half ∙ b.half))
     (some_same _ _ (sym a.gap ∙ b.gap))
+    (some_same _ _ (sym a.cuts ∙ b.cuts))
     (some_same _ _ (sym a.generate ∙ b.generate))
+    (a.writes ∙ sym b.writes)
+    (a.logs ∙ sym b.logs)
 
 pub one_wish : (one : Bool) (words : List Text) (v w : Wish) → Means one words v → Means one words w → v ≡ w
 one_wish one words v w m n =
     let same : n.uses ≡ m.uses = some_same _ _ (sym n.spelled.uses_are ∙ m.spelled.uses_are) in
-    one_asked (λ name. value_of name m.uses) v w m.asked (subst (λ (us : List Use). Asks (λ name. value_of name us) w) same n.asked)
+    one_asked (λ name. value_of name m.uses) (has (codes "write") m.uses) (has (codes "log") m.uses) v w m.asked
+    (subst (λ (us : List Use). Asks (λ name. value_of name us) (has (codes "write") us) (has (codes "log") us) w) same n.asked)

@@ -12,7 +12,7 @@ Options = List (Text × Bool)
 
 abbrev pub shared_options : Options
 shared_options = (codes "nodes", true) ∷ (codes "span", true) ∷ (codes "order", true) ∷ (codes "branch", true) ∷ (codes "gap", true)
-    ∷ (codes "gen", true) ∷ (codes "columns", true) ∷ (codes "rows", true) ∷ []
+    ∷ (codes "cuts", true) ∷ (codes "gen", true) ∷ (codes "columns", true) ∷ (codes "rows", true) ∷ (codes "write", false) ∷ (codes "log", false) ∷ []
 
 -- those of the program without workers, or of the one with them
 abbrev pub options : Bool → Options

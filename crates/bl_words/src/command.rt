@@ -1,5 +1,5 @@
 //! The options as `clap` knows them.
-ghost use Rattle.std.specs.Prelude.{◌≡◌, IfOk, Bool, codes, true, if◌then◌else◌, ◌∷◌, []};
+ghost use Rattle.std.specs.Prelude.{◌≡◌, IfOk, Bool, codes, true, false, if◌then◌else◌, ◌∷◌, []};
 ghost use Rattle.bl_words.specs.Words.{options};
 ghost use Rattle.bl_words.specs.Options.{app_for, rule_for};
 ghost use Rattle.clap.specs.Words.{app_of, rule_of, with_rule};
@@ -16,6 +16,17 @@ fn with_value<'a>(
     ensures { IfOk result (λ c. app_of c ≡ with_rule (app_of command.entry) (rule_for (name.now, true))) }
 {
     command.arg(Arg::new(alloc, name).long(name).action(ArgAction::Set))
+}
+
+// The command with one more flag.
+fn with_flag<'a>(
+    alloc: Global,
+    command: Command<'a>,
+    name: &'a str,
+) -> Result<Command<'a>, AllocError>
+    ensures { IfOk result (λ c. app_of c ≡ with_rule (app_of command.entry) (rule_for (name.now, false))) }
+{
+    command.arg(Arg::new(alloc, name).long(name).action(ArgAction::SetTrue))
 }
 
 // A command without help and version, whose words are all arguments.
@@ -49,7 +60,10 @@ pub fn command<'a>(alloc: Global, one: bool) -> Result<Command<'a>, AllocError>
     let command = with_value(alloc, command, "order")?;
     let command = with_value(alloc, command, "branch")?;
     let command = with_value(alloc, command, "gap")?;
+    let command = with_value(alloc, command, "cuts")?;
     let command = with_value(alloc, command, "gen")?;
     let command = with_value(alloc, command, "columns")?;
-    with_value(alloc, command, "rows")
+    let command = with_value(alloc, command, "rows")?;
+    let command = with_flag(alloc, command, "write")?;
+    with_flag(alloc, command, "log")
 }

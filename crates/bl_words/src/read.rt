@@ -60,10 +60,14 @@ pub fn read_words(alloc: Global, words: &[String], one: bool) -> Result<Wish, Wo
         return Err(WordsFault::Memory);
     };
     match command.try_get_matches_from(words) {
-        Ok(matches) => match asked(&matches) {
-            Some(wish) => Ok(wish),
-            None => Err(WordsFault::Refused),
-        },
+        Ok(matches) => {
+            let write = matches.get_flag("write");
+            let log = matches.get_flag("log");
+            match asked(&matches, write, log) {
+                Some(wish) => Ok(wish),
+                None => Err(WordsFault::Refused),
+            }
+        }
         Err(error) => Err(fault(&error)),
     }
 }

@@ -1,9 +1,10 @@
 //! What the words ask for.
 ghost use Rattle.std.specs.Prelude.{codes, ◌≡◌, ◌≤◌, length, option_map, IfSome, None};
 ghost use Rattle.bl_words.specs.Words.{digits_from, number_in, number_or};
-ghost use Rattle.bl_words.specs.Wishes.{Asks, IsWithinRanges, generate_of, half_of, order_of};
+ghost use Rattle.bl_words.specs.Wishes.{Asks, IsWithinRanges, cuts_of, generate_of, half_of, order_of};
 ghost use Rattle.clap.specs.Words.{first_value, found_of};
 
+use bl_cover::CutKinds;
 use bl_journal::{Order, Settings};
 use clap::ArgMatches;
 
@@ -30,8 +31,15 @@ pub struct Wish {
     pub half: bool,
     /// By how many whole units of the objective a point may fail to be optimal: at most 10^9.
     pub gap: u32,
+    /// Which cuts are proposed at a node.
+    pub cuts: CutKinds,
     /// The problem to be made, where none is to be read.
     pub generate: Option<GenWish>,
+    /// Whether the problem is to be written as text, and not to be solved.
+    pub write: bool,
+    /// Whether the journal of the search and what its tree holds are told before the answer. Not with
+    /// `write`.
+    pub log: bool,
 }
 
 const WORKERS: u32 = 1;
@@ -143,6 +151,25 @@ fn half_option(value: Option<&str>) -> Option<bool>
     }
 }
 
+fn cuts_option(value: Option<&str>) -> Option<CutKinds>
+    ensures { result ≡ cuts_of (option_map (λ s. s.now) value.entry) }
+{
+    match value {
+        None => Some(CutKinds::Both),
+        Some(text) => {
+            if text == "rows" {
+                Some(CutKinds::Rows)
+            } else if text == "covers" {
+                Some(CutKinds::Covers)
+            } else if text == "both" {
+                Some(CutKinds::Both)
+            } else {
+                None
+            }
+        }
+    }
+}
+
 // The problem that is to be made, whose sizes may be named only beside its start.
 fn generate_option(matches: &ArgMatches) -> Option<Option<GenWish>>
     ensures { result ≡ generate_of (first_value (found_of matches.now) (codes "gen")) (first_value (found_of matches.now) (codes "columns"))
@@ -168,17 +195,21 @@ fn generate_option(matches: &ArgMatches) -> Option<Option<GenWish>>
     }
 }
 
-/// What the values of the options ask for. None exactly where they ask for nothing.
-pub fn asked(matches: &ArgMatches) -> Option<Wish>
-    ensures some { IfSome result (λ wish. Asks (first_value (found_of matches.now)) wish) }
-    ensures none { result ≡ None → (wish : Wish) → Asks (first_value (found_of matches.now)) wish → ⊥ }
+/// What the values of the options ask for, with or without the flags `--write` and `--log`. None exactly where they ask for nothing.
+pub fn asked(matches: &ArgMatches, write: bool, log: bool) -> Option<Wish>
+    ensures some { IfSome result (λ wish. Asks (first_value (found_of matches.now)) write log wish) }
+    ensures none { result ≡ None → (wish : Wish) → Asks (first_value (found_of matches.now)) write log wish → ⊥ }
 {
+    if write && log {
+        return None;
+    }
     let workers = number_option(matches, "workers", 1, MOST_WORKERS, WORKERS)?;
     let nodes = number_option(matches, "nodes", 0, MOST_NODES, NODES)?;
     let span = number_option(matches, "span", 1, MOST_SPAN, SPAN)?;
     let order = order_option(matches.get_str("order"))?;
     let half = half_option(matches.get_str("branch"))?;
     let gap = number_option(matches, "gap", 0, MOST_GAP, GAP)?;
+    let cuts = cuts_option(matches.get_str("cuts"))?;
     let generate = generate_option(matches)?;
     Some(Wish {
         workers,
@@ -190,6 +221,9 @@ pub fn asked(matches: &ArgMatches) -> Option<Wish>
         },
         half,
         gap,
+        cuts,
         generate,
+        write,
+        log,
     })
 }

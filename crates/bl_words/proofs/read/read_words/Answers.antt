@@ -1,10 +1,11 @@
-use Rattle.std.proofs.Common.{◌≡◌, ◌≢◌, map, string_bytes, Bool, List, ap, sym, subst, ◌∙◌, [], ⊎_elim}
-use Rattle.bl_words.specs.Words.{Text, options}
+use Rattle.std.proofs.Common.{◌≡◌, ◌≢◌, map, string_bytes, Bool, List, ap, sym, subst, ◌∙◌, [], codes, ⊎_elim}
+use Rattle.bl_words.specs.Words.{Text, has, options}
 use Rattle.bl_words.specs.Options.{app_for}
 use Rattle.bl_words.proofs.Ranges.{within_ranges}
 use Rattle.bl_words.proofs.Whole.{HasNoStop}
-use Rattle.bl_words.proofs.Judging.{Taken, asks, means, refused_means_nothing, simple, simple_and_free, stop_means_nothing, taken}
+use Rattle.bl_words.proofs.Judging.{Taken, asks, flag_result, means, read_log_flag, read_write_flag, refused_means_nothing, simple, simple_and_free, stop_means_nothing, taken}
 use Rattle.clap.specs.Words.{App, app_of, fault_of, found_of, is_simple, is_simple_and_free, kind_of, matches_of, rows_of}
+use Rattle.clap.proofs.WalkLemmas.{one_text-rows}
 use Rattle.clap.specs.Kinds.{HasKind, IsAmong, Kinds}
 use Rattle.clap.specs.declared.error.Error.{Error}
 use Rattle.clap.specs.declared.error.kind.ErrorKind.TheVariants.{OutOfMemory}
@@ -24,10 +25,14 @@ returns-in-Some-clause-meant c =
     let m = c.in-Ok-try_get_matches_from.matches in
     let rows : rows_of (found_of m) ≡ matches_of (app_for (options one)) ws =
     (c.in-Ok-try_get_matches_from.ensures.matches (ap is_simple app ∙ simple one)).0 ∙ ap (λ (a : App). matches_of a ws) app in
-    means one ws k (found_of m) rows _ c.in-Some.ensures.some
+    let write : c.get_flag-write.result ≡ has (codes "write") k.uses =
+    flag_result _ _ _ (one_text-rows (found_of m) (codes "write") ∙ read_write_flag one ws k (rows_of (found_of m)) rows) c.get_flag-write.ensures.value c.get_flag-write.ensures.other in
+    let log : c.get_flag-log.result ≡ has (codes "log") k.uses =
+    flag_result _ _ _ (one_text-rows (found_of m) (codes "log") ∙ read_log_flag one ws k (rows_of (found_of m)) rows) c.get_flag-log.ensures.value c.get_flag-log.ensures.other in
+    means one ws k (found_of m) rows _ _ write log _ c.in-Some.ensures.some
 
 pub returns-in-Some-clause-ranges : goal.returns-in-Some-clause-ranges
-returns-in-Some-clause-ranges c = within_ranges _ c.in-Some.wish c.in-Some.ensures.some
+returns-in-Some-clause-ranges c = within_ranges _ _ _ c.in-Some.wish c.in-Some.ensures.some
 
 pub returns-in-Ok-try_get_matches_from-clause-refused : goal.returns-in-Ok-try_get_matches_from-clause-refused
 returns-in-Ok-try_get_matches_from-clause-refused c = λ e w meant.
@@ -40,7 +45,11 @@ returns-in-Ok-try_get_matches_from-clause-refused c = λ e w meant.
     let m = c.in-Ok-try_get_matches_from.matches in
     let rows : rows_of (found_of m) ≡ matches_of (app_for (options one)) ws =
     (c.in-Ok-try_get_matches_from.ensures.matches (ap is_simple app ∙ simple one)).0 ∙ ap (λ (a : App). matches_of a ws) app in
-    c.asked.ensures.none c.in-None.is w (asks one ws k (found_of m) rows w meant)
+    let write : c.get_flag-write.result ≡ has (codes "write") k.uses =
+    flag_result _ _ _ (one_text-rows (found_of m) (codes "write") ∙ read_write_flag one ws k (rows_of (found_of m)) rows) c.get_flag-write.ensures.value c.get_flag-write.ensures.other in
+    let log : c.get_flag-log.result ≡ has (codes "log") k.uses =
+    flag_result _ _ _ (one_text-rows (found_of m) (codes "log") ∙ read_log_flag one ws k (rows_of (found_of m)) rows) c.get_flag-log.ensures.value c.get_flag-log.ensures.other in
+    c.asked.ensures.none c.in-None.is w (asks one ws k (found_of m) rows _ _ write log w meant)
 
 fault_filled : (kinds : Kinds) (e : Error) → HasKind kinds e → kind_of e ≢ OutOfMemory → kinds ≢ []
 fault_filled kinds e h other none = ⊎_elim (λ memory. other memory) (λ among. among_none (subst (λ (k : Kinds). IsAmong (kind_of e) k) none among)) h
