@@ -1,21 +1,26 @@
 -- What a run did: each status has its cause.
-use Rattle.std.specs.Prelude.{◌≡◌, ◌⊎◌, ◌+◌, ◌*◌, ◌^◌, ℕ, pos, Bool, List, Some, None, Ok, Err, true, false, is_some, map, reverse, string_bytes}
+use Rattle.std.specs.Prelude.{◌≡◌, ◌⊎◌, ◌+◌, ◌*◌, ◌^◌, ◌++◌, ℕ, pos, Bool, List, [], Some, None, Ok, Err, true, false, is_some, map, reverse, string_bytes}
 use Rattle.std.specs.declared.option.Option.{Option}
 use Rattle.std.specs.declared.alloc.Global.{Global}
 use Rattle.std.specs.declared.string.String.{String}
 use Rattle.std.specs.Io.KnownBytes.{Appends}
-use Rattle.bl_io.specs.Streams.{IsWhole, Takes, AppendsPrefix}
+use Rattle.bl_io.specs.Streams.{IsWhole, Takes, ReadsWithin, AppendsPrefix}
 use Rattle.bl_io.specs.Causes.{Rose}
+use Rattle.bl_run.specs.declared.top.TheConstants.{MOST_BYTES}
 use Rattle.bl_problem.specs.Program.{Program}
 use Rattle.bl_cards.specs.Reading.{Fault}
 use Rattle.bl_mps.specs.Reading.{read_of}
 use Rattle.bl_journal.specs.declared.entry.Entry.{Entry}
 use Rattle.bl_journal.specs.declared.settings.Settings.{Settings}
 use Rattle.bl_journal.specs.Kept.{Kept}
+use Rattle.bl_journal.specs.Pieces.{held_of}
 use Rattle.bl_journal.specs.Results.{answer_of, IsTrueFor}
-use Rattle.bl_run.specs.declared.run.Answered.{Answered}
-use Rattle.bl_run.specs.declared.run.Stop.{Stop}
-use Rattle.bl_run.specs.declared.run.Stop.TheVariants.{Words, TooLong, Model, Read, Memory}
+use Rattle.bl_log.specs.Log.{text_of}
+use Rattle.bl_run.specs.declared.top.Answered.{Answered}
+use Rattle.bl_run.specs.declared.top.Reply.{Reply}
+use Rattle.bl_run.specs.declared.top.Reply.TheVariants.{Answer, Model as ModelText}
+use Rattle.bl_run.specs.declared.top.Stop.{Stop}
+use Rattle.bl_run.specs.declared.top.Stop.TheVariants.{Words, TooLong, Model, Read, Memory}
 use Rattle.bl_gen.specs.Made.{made}
 use Rattle.bl_words.specs.Wishes.{Means, MeansNothing}
 use Rattle.bl_words.specs.declared.read.WordsFault.{WordsFault}
@@ -25,28 +30,31 @@ use Rattle.bl_words.specs.declared.wish.Wish.{Wish}
 use Rattle.bl_search.specs.Places.{SplitsAt}
 use Rattle.bl_search.specs.Searches.{IsEndedHistory}
 use Rattle.bl_run.specs.Splitting.{IsSplitBy}
-use Rattle.bl_report.specs.Texts.{verdict_text, model_line, long_line}
+use Rattle.bl_report.specs.Texts.{verdict_text, held_line, model_line, long_line}
+use Rattle.bl_write.specs.Written.{written}
 
-abbrev pub most_bytes : ℕ
-most_bytes = 8388608
+-- the words ask for this; `alone` is true for the program in which seat 0 searches alone
+abbrev pub AskFor : Bool → List (String Global) → Wish → Type 0
+AskFor alone words wish = Means alone (map string_bytes words) wish
 
--- the words ask the program without workers for this
-abbrev pub AskFor : List (String Global) → Wish → Type 0
-AskFor words wish = Means true (map string_bytes words) wish
-
-abbrev pub MeanNothing : List (String Global) → Type 0
-MeanNothing words = MeansNothing true (map string_bytes words)
+abbrev pub MeanNothing : Bool → List (String Global) → Type 0
+MeanNothing alone words = MeansNothing alone (map string_bytes words)
 
 -- the words ask for a problem that is made from a number
-pub record AskToMake (words : List (String Global)) : Type 0 where
+pub record AskToMake (alone : Bool) (words : List (String Global)) : Type 0 where
   pub wish : Wish
-  pub meant : AskFor words wish
+  pub meant : AskFor alone words wish
   pub makes : is_some wish.generate ≡ true
+
+-- how many workers search beside seat 0
+abbrev pub workers_of : Bool → ℕ → ℕ
+workers_of true workers = 0
+workers_of false workers = workers
 
 -- the source was read to its end, and its bytes mean this problem
 pub record IsRead (before now : Option (List ℕ)) (problem : Program) : Type 0 where
   pub bytes : List ℕ
-  pub whole : IsWhole before now most_bytes bytes
+  pub whole : IsWhole before now MOST_BYTES bytes
   pub reads : read_of bytes ≡ Ok problem
 
 -- the problem to be solved: the one that the source gives, or else the one that is made
@@ -63,54 +71,99 @@ abbrev pub shows_columns : Option GenWish → Bool
 shows_columns None = true
 shows_columns (Some sizes) = false
 
+-- what a log tells before the answer: the journal's lines, and how many entries the stored pieces have
+abbrev pub log_lines : Bool → List Entry → ℕ → List ℕ
+log_lines false history held = []
+log_lines true history held = text_of history ++ held_line held
+
+-- the text of a search's answer, behind its log where the wish asks for one
+abbrev pub run_text : Wish → Program → List Entry → List ℕ
+run_text w p history =
+    log_lines w.log history (held_of p (settings_for w p) (reverse history))
+    ++ verdict_text p (shows_columns w.generate) (answer_of p (settings_for w p) (reverse history))
+
 -- the words are accepted and a problem is given; a search of its tree by the wish has ended, each split is where the wish
 -- says, and the text is that of the search's answer, which is true
-pub record IsAnswered (words : List (String Global)) (before now : Option (List ℕ)) (limited : Bool) (history : List Entry) (text : List ℕ) : Type 0 where
+pub record IsAnswered (alone : Bool) (words : List (String Global)) (before now : Option (List ℕ)) (limited : Bool) (history : List Entry) (text : List ℕ) : Type 0 where
   pub wish : Wish
-  pub meant : AskFor words wish
+  pub meant : AskFor alone words wish
+  pub solves : wish.write ≡ false
   pub problem : Program
   pub given : IsGiven wish.generate before now problem
-  pub ended : IsEndedHistory problem (settings_for wish problem) limited history
+  pub ended : IsEndedHistory problem (settings_for wish problem) (workers_of alone wish.workers) limited history
   pub places : SplitsAt (IsSplitBy wish.half) problem (reverse history)
   pub is_true : IsTrueFor problem (answer_of problem (settings_for wish problem) (reverse history))
-  pub is : text ≡ verdict_text problem (shows_columns wish.generate) (answer_of problem (settings_for wish problem) (reverse history))
+  pub is : text ≡ run_text wish problem history
 
 -- a search of the problem's tree by the wish has ended, each split is where the wish says, and the text is that of the
 -- search's answer, which is true
-pub record IsSolved (problem : Program) (wish : Wish) (answered : Answered) : Type 0 where
-  pub ended : IsEndedHistory problem (settings_for wish problem) answered.limited answered.journal.entries
+pub record IsSolved (workers : ℕ) (problem : Program) (wish : Wish) (answered : Answered) : Type 0 where
+  pub ended : IsEndedHistory problem (settings_for wish problem) workers answered.limited answered.journal.entries
   pub places : SplitsAt (IsSplitBy wish.half) problem (reverse answered.journal.entries)
   pub is_true : IsTrueFor problem (answer_of problem (settings_for wish problem) (reverse answered.journal.entries))
-  pub is : answered.text.items ≡ verdict_text problem (shows_columns wish.generate) (answer_of problem (settings_for wish problem) (reverse answered.journal.entries))
+  pub is : answered.text.items ≡ run_text wish problem answered.journal.entries
+
+-- the words are accepted, a problem is given, and it is to be written: this is its text
+pub record IsModelText (alone : Bool) (words : List (String Global)) (before now : Option (List ℕ)) (text : List ℕ) : Type 0 where
+  pub wish : Wish
+  pub meant : AskFor alone words wish
+  pub writes : wish.write ≡ true
+  pub problem : Program
+  pub given : IsGiven wish.generate before now problem
+  pub is : text ≡ written problem
+
+-- what is to be written: the text of a search's answer, or of the problem
+abbrev pub IsReply : Bool → List (String Global) → Option (List ℕ) → Option (List ℕ) → Reply → Type 0
+IsReply alone words before now (Answer a) = IsAnswered alone words before now a.limited a.journal.entries a.text.items
+IsReply alone words before now (ModelText text) = IsModelText alone words before now text.items
+
+-- the text of this problem is to be written
+abbrev pub IsModelOf : Program → Reply → Type 0
+IsModelOf problem (Answer a) = ⊥
+IsModelOf problem (ModelText text) = text.items ≡ written problem
 
 -- the source was read to its end, its bytes have a fault, and the line tells the first one
 pub record IsRefused (before now : Option (List ℕ)) (line : List ℕ) : Type 0 where
   pub bytes : List ℕ
-  pub whole : IsWhole before now most_bytes bytes
+  pub whole : IsWhole before now MOST_BYTES bytes
   pub fault : Fault
   pub reads : read_of bytes ≡ Err fault
   pub tells : line ≡ model_line fault
 
 -- one byte past the limit was read, or all the bytes, and they mean no problem; and the line tells it
 pub data IsUnreadable (before now : Option (List ℕ)) (line : List ℕ) : Type 0 where
-  is_too_long : Takes before now (most_bytes + 1) → line ≡ long_line → IsUnreadable before now line
+  is_too_long : Takes before now (MOST_BYTES + 1) → line ≡ long_line → IsUnreadable before now line
   is_refused : IsRefused before now line → IsUnreadable before now line
 
 -- the answer was written whole, and the journal is that of the search
-pub record WritesAnswer (words : List (String Global)) (limited : Bool) (journal : Option Kept) (left left' kept kept' : Option (List ℕ)) : Type 0 where
+pub record WritesAnswer (alone : Bool) (words : List (String Global)) (limited : Bool) (journal : Option Kept) (left left' kept kept' : Option (List ℕ)) : Type 0 where
   pub stands : Kept
   pub journal_is : journal ≡ Some stands
   pub text : List ℕ
-  pub answered : IsAnswered words left left' limited stands.entries text
+  pub answered : IsAnswered alone words left left' limited stands.entries text
   pub written : Appends kept kept' text
 
 -- a prefix of the answer was written, and the journal is that of the search
-pub record WritesPart (words : List (String Global)) (journal : Option Kept) (left left' kept kept' : Option (List ℕ)) : Type 0 where
+pub record WritesPart (alone : Bool) (words : List (String Global)) (journal : Option Kept) (left left' kept kept' : Option (List ℕ)) : Type 0 where
   pub limited : Bool
   pub stands : Kept
   pub journal_is : journal ≡ Some stands
   pub text : List ℕ
-  pub answered : IsAnswered words left left' limited stands.entries text
+  pub answered : IsAnswered alone words left left' limited stands.entries text
+  pub written : AppendsPrefix kept kept' text
+
+-- the text of the problem was written whole, and nothing was searched
+pub record WritesModel (alone : Bool) (words : List (String Global)) (journal : Option Kept) (left left' kept kept' : Option (List ℕ)) : Type 0 where
+  pub no_journal : journal ≡ None
+  pub text : List ℕ
+  pub model : IsModelText alone words left left' text
+  pub written : Appends kept kept' text
+
+-- a prefix of it was written
+pub record WritesModelPart (alone : Bool) (words : List (String Global)) (journal : Option Kept) (left left' kept kept' : Option (List ℕ)) : Type 0 where
+  pub no_journal : journal ≡ None
+  pub text : List ℕ
+  pub model : IsModelText alone words left left' text
   pub written : AppendsPrefix kept kept' text
 
 -- a prefix of the line was written, and the whole line unless the sink failed
@@ -126,11 +179,12 @@ pub record TellsModel (left left' kept kept' : Option (List ℕ)) (faults faults
 
 -- why there is no answer
 abbrev pub HasReason : Option (List ℕ) → Option (List ℕ) → ℕ → ℕ → Stop → Type 0
-HasReason left left' faults faults' Words = Unit {0}
-HasReason left left' faults faults' TooLong = Takes left left' (most_bytes + 1)
-HasReason left left' faults faults' (Model line what) = IsRefused left left' (model_line (record { line = line; what = what }))
+HasReason left left' faults faults' Words = ReadsWithin left left' faults faults' MOST_BYTES
+HasReason left left' faults faults' TooLong = Takes left left' (MOST_BYTES + 1)
+HasReason left left' faults faults' (Model line what) =
+    ReadsWithin left left' faults faults' MOST_BYTES × IsRefused left left' (model_line (record { line = line; what = what }))
 HasReason left left' faults faults' Read = Rose faults faults'
-HasReason left left' faults faults' Memory = Unit {0}
+HasReason left left' faults faults' Memory = ReadsWithin left left' faults faults' MOST_BYTES
 
 -- a run stops so before anything is read: the words are refused, or there is no memory
 abbrev pub IsEarly : Stop → Type 0

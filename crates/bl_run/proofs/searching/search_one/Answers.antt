@@ -4,7 +4,7 @@ use Rattle.bl_search.specs.Places.{SplitsAt}
 use Rattle.bl_tree.specs.Views.{past_of}
 use Rattle.bl_run.specs.Splitting.{IsSplitBy}
 use Rattle.bl_run.proofs.Splitting.{half_places, fraction_places}
-use Rattle.bl_run.proofs.run.search.Goals as goal
+use Rattle.bl_run.proofs.searching.search_one.Goals as goal
 
 pub returns-then-in_middle-clause-places : goal.returns-then-in_middle-clause-places
 returns-then-in_middle-clause-places c =

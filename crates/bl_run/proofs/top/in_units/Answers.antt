@@ -1,7 +1,7 @@
 use Rattle.std.proofs.Common.{arith}
 use Rattle.bl_num.proofs.Powers.{ten_pow-le}
 use Rattle.bl_run.proofs.Units.{units-small}
-use Rattle.bl_run.proofs.run.in_units.Goals as goal
+use Rattle.bl_run.proofs.top.in_units.Goals as goal
 
 pub pow-requires : goal.pow-requires
 pow-requires c = let p = ten_pow-le c.args.scale 27 c.requires.scale in omega (arith, p)
