@@ -35,7 +35,7 @@ ENDATA
 ";
 
 /// Six columns of two units each, whose sum is to be odd: without cuts there is much to search.
-const ODDER: &[u8] = b"NAME
+pub(crate) const ODDER: &[u8] = b"NAME
 ROWS
  N  COST
  E  R1
@@ -61,7 +61,8 @@ ENDATA
 ";
 
 /// Proposes nothing.
-struct Silent {}
+#[derive(Drop)]
+pub(crate) struct Silent {}
 
 impl Separate for Silent {
     ghost allows = { λ s p desc t. ⊥ };
@@ -78,7 +79,7 @@ impl Separate for Silent {
 }
 
 /// Splits the first widest column in the middle.
-fn by_half(desc: &Desc<Cut>, point: &[Fixed]) -> Place
+pub(crate) fn by_half(desc: &Desc<Cut>, point: &[Fixed]) -> Place
     requires { IsSplittable desc.now point.now }
     ensures { Splits desc.now result }
 {
@@ -86,7 +87,7 @@ fn by_half(desc: &Desc<Cut>, point: &[Fixed]) -> Place
 }
 
 /// The problem of a text.
-fn problem(alloc: Global, text: &[u8]) -> Result<Arc<Problem>, Fail> {
+pub(crate) fn problem(alloc: Global, text: &[u8]) -> Result<Arc<Problem>, Fail> {
     if text.len() > 10_000 {
         return Err(Fail::new("the model is long"));
     }

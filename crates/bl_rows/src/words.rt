@@ -1,3 +1,4 @@
+use bl_cover::CutKinds;
 use bl_gen::make;
 use bl_journal::{Order, Settings};
 use bl_problem::Sense;
@@ -25,7 +26,10 @@ const PLAIN: Wish = Wish {
     },
     half: false,
     gap: 0,
+    cuts: CutKinds::Both,
     generate: None,
+    write: false,
+    log: false,
 };
 
 #[test]
@@ -46,11 +50,14 @@ fn words_ask_for_wishes(rt: HostRuntime) -> Result<(), Fail> {
         },
         half: true,
         gap: 1_000_000_000,
+        cuts: CutKinds::Covers,
         generate: Some(GenWish {
             start: 1,
             columns: 30,
             rows: 0,
         }),
+        write: false,
+        log: true,
     };
     let most = Wish {
         workers: 1,
@@ -62,15 +69,19 @@ fn words_ask_for_wishes(rt: HostRuntime) -> Result<(), Fail> {
         },
         half: false,
         gap: 0,
+        cuts: CutKinds::Rows,
         generate: Some(GenWish {
             start: 2_147_483_647,
             columns: 1_000,
             rows: 1_000,
         }),
+        write: true,
+        log: false,
     };
-    let rows: [(&[&str], bool, Wish); 6] = [
+    let rows: [(&[&str], bool, Wish); 7] = [
         (&[], true, PLAIN),
         (&[], false, PLAIN),
+        (&["--cuts", "both"], true, PLAIN),
         (&["--nodes=007"], true, seven),
         (&["--nodes", "0000000007"], false, seven),
         (
@@ -84,6 +95,8 @@ fn words_ask_for_wishes(rt: HostRuntime) -> Result<(), Fail> {
                 "--rows=0",
                 "--branch=half",
                 "--gap=1000000000",
+                "--cuts=covers",
+                "--log",
             ],
             false,
             many,
@@ -99,6 +112,9 @@ fn words_ask_for_wishes(rt: HostRuntime) -> Result<(), Fail> {
                 "--order=best",
                 "--span",
                 "64",
+                "--cuts",
+                "rows",
+                "--write",
                 "--nodes",
                 "100000",
             ],
@@ -115,7 +131,7 @@ fn words_ask_for_wishes(rt: HostRuntime) -> Result<(), Fail> {
 #[test]
 fn other_words_are_refused(rt: HostRuntime) -> Result<(), Fail> {
     let alloc = rt.alloc();
-    let rows: [&[&str]; 33] = [
+    let rows: [&[&str]; 36] = [
         // no options, or no such ones
         &["x"],
         &[""],
@@ -127,13 +143,15 @@ fn other_words_are_refused(rt: HostRuntime) -> Result<(), Fail> {
         &["--version"],
         &["--speed", "1"],
         &["--node", "1"],
+        // a flag has no value, and stands once
+        &["--write=1"],
+        &["--write", "--write"],
+        &["--log=1"],
+        &["--log", "--log"],
+        &["--log", "--write"],
         // parts that are not built
-        &["--log"],
-        &["--write"],
-        &["--gap", "1000000001"],
         &["--save"],
         &["--hubs", "2"],
-        &["--cuts", "both"],
         // values out of range, or none
         &["--nodes"],
         &["--nodes="],
@@ -142,10 +160,12 @@ fn other_words_are_refused(rt: HostRuntime) -> Result<(), Fail> {
         &["--nodes", "+5"],
         &["--nodes", "100001"],
         &["--nodes=00000000007"],
+        &["--gap", "1000000001"],
         &["--span", "0"],
         &["--span", "65"],
         &["--order", "Best"],
         &["--branch=middle"],
+        &["--cuts", "none"],
         &["--gen", "2147483648"],
         &["--gen", "1", "--columns", "0"],
         &["--gen", "1", "--rows", "1001"],
