@@ -15,7 +15,7 @@ from pulp import constants
 from pulp.apis.core import LpSolver_CMD, PulpSolverError
 
 BUILT = os.path.join(
-    os.path.dirname(os.path.realpath(__file__)), "..", "crates", "blis_one", "out", "blis_one"
+    os.path.dirname(os.path.realpath(__file__)), "..", "crates", "blis", "out", "blis"
 )
 FARTHEST = 10**9
 KINDS = {
@@ -100,27 +100,32 @@ class Blis(LpSolver_CMD):
     """Solves integer programs exactly, within a budget of nodes.
 
     After a run `solver.bound` is the best value that any feasible point can have, as a Decimal, in
-    the problem's own sense: the optimal value, or the bound that is left at the budget's end. None
-    where no point is feasible. At the budget's end the problem's status is "Not Solved", and its
+    the problem's own sense: the optimal value, or the bound that is left within the gap or at the
+    budget's end. None where no point is feasible. With a gap the status is "Optimal", and
+    `sol_status` is LpSolutionIntegerFeasible where the point may be worse, within the gap. At the budget's end the problem's status is "Not Solved", and its
     `sol_status` tells whether a feasible point was found.
     """
 
     name = "Blis"
 
-    def __init__(self, path=None, nodes=None, keepFiles=False, msg=True, **kwargs):
-        """`nodes`: the budget, 0 to 100000 (20000 if not given); `path`: the program."""
+    def __init__(
+        self, path=None, nodes=None, workers=None, gap=None, keepFiles=False, msg=True, **kwargs
+    ):
+        """`nodes`: the budget, 0 to 100000 (20000 if not given); `workers`: so many threads, 1 to 64
+        (as many as there are processors); `gap`: by how many whole units of the objective the
+        answer may fail to be optimal, 0 to 10^9 (0); `path`: the program."""
         super().__init__(path=path, keepFiles=keepFiles, msg=msg, **kwargs)
-        self.nodes, self.bound = nodes, None
+        self.nodes, self.workers, self.gap, self.bound = nodes, workers, gap, None
 
     def copy(self):
         """An equal solver."""
         copy = super().copy()
-        copy.nodes = self.nodes
+        copy.nodes, copy.workers, copy.gap = self.nodes, self.workers, self.gap
         return copy
 
     def defaultPath(self):
         """The program on the path, or else the one that `solve` builds."""
-        return shutil.which("blis_one") or BUILT
+        return shutil.which("blis") or BUILT
 
     def available(self):
         """The program's path, or False."""
@@ -134,9 +139,8 @@ class Blis(LpSolver_CMD):
         if self.keepFiles:
             with open(f"{lp.name}-pulp.mps", "w", encoding="ascii") as file:
                 file.write(written.text)
-        words = [] if self.nodes is None else ["--nodes", str(self.nodes)]
         run = subprocess.run(
-            [self.path, *words, *self.options],
+            [self.path, *self.words(), *self.options],
             input=written.text.encode("ascii"),
             stdout=subprocess.PIPE,
             check=False,
@@ -147,6 +151,13 @@ class Blis(LpSolver_CMD):
         if self.msg:
             print("blis:", ", ".join(" ".join(w) for w in lines if w[0] not in ("col", "end")))
         return self.take(lp, written, lines)
+
+    def words(self):
+        """The words after the program's name."""
+        workers = min(64, os.cpu_count() or 1) if self.workers is None else self.workers
+        asked = {"--workers": workers, "--nodes": self.nodes, "--gap": self.gap}
+        given = [(name, str(number)) for name, number in asked.items() if number is not None]
+        return [word for pair in given for word in pair]
 
     @staticmethod
     def fault(run, written):
@@ -171,6 +182,7 @@ class Blis(LpSolver_CMD):
         self.bound = None if best == "none" else Decimal(best)
         statuses = {
             "optimal": (constants.LpStatusOptimal, constants.LpSolutionOptimal),
+            "within": (constants.LpStatusOptimal, constants.LpSolutionIntegerFeasible),
             "infeasible": (constants.LpStatusInfeasible, constants.LpSolutionInfeasible),
             "limit": (
                 constants.LpStatusNotSolved,
