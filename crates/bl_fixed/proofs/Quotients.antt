@@ -1,5 +1,7 @@
 -- The quotient rounded down, from the one that is rounded toward zero.
-use Rattle.std.proofs.Common.{◌≡◌, ◌≢◌, ℕ, zero, suc, ◌+◌, ◌-◌, ◌*◌, ◌/◌, ◌%◌, ◌<◌, ℤ, pos, negsuc, ◌-ℤ◌, ◌<ℤ◌, ◌≤ℤ◌, refl, sym, ap, subst, arith, FitsSigned, int_div, int_rem}
+use Rattle.std.proofs.Common.{◌≡◌, ◌≢◌, ℕ, zero, suc, ◌+◌, ◌-◌, ◌*◌, ◌/◌, ◌%◌, ◌<◌, ℤ, pos}
+use Rattle.std.proofs.Common.{negsuc, ◌-ℤ◌, ◌<ℤ◌, ◌≤ℤ◌, refl, sym, ap, subst, arith, FitsSigned}
+use Rattle.std.proofs.Common.{int_div, int_rem}
 use Rattle.std.proofs.lemmas.Int.{ints}
 use Rattle.std.proofs.lemmas.Nat.{div-add-mod', div-mul-add, mod_below}
 use Rattle.std.specs.Int.{w128}
@@ -38,7 +40,8 @@ div-pred_other n b h e = from (suc n % b) refl
         subst (λ (x : ℕ). suc n / b ≡ x / b) s (sym d)
 
 -- where the rest and a positive b have different signs, and else
-pub floor-above : (a b : ℤ) → pos 0 <ℤ b → int_rem a b <ℤ pos 0 → floor_of a b ≡ int_div a b -ℤ pos 1
+pub floor-above : (a b : ℤ) → pos 0 <ℤ b → int_rem a b <ℤ pos 0 → floor_of a b
+    ≡ int_div a b -ℤ pos 1
 floor-above (pos a) (pos b) h k = absurd (omega (arith, ints))
 floor-above (negsuc a) (pos b) h k =
     let e = div-pred_other a b (omega (arith, ints)) (λ z. omega (arith, ints)) in
@@ -53,15 +56,18 @@ floor-exact (negsuc a) (pos b) h k =
 floor-exact a (negsuc b) h k = absurd (omega (arith, ints))
 
 -- the same for a negative b
-pub floor-above_negative : (a b : ℤ) → b <ℤ pos 0 → pos 0 <ℤ int_rem a b → floor_of a b ≡ int_div a b -ℤ pos 1
+pub floor-above_negative : (a b : ℤ) → b <ℤ pos 0 → pos 0 <ℤ int_rem a b → floor_of a b
+    ≡ int_div a b -ℤ pos 1
 floor-above_negative a (pos b) h k = absurd (omega (arith, ints))
-floor-above_negative (pos zero) (negsuc b) h k = absurd (let z = mod_below 0 (suc b) (omega arith) in omega (arith, ints))
+floor-above_negative (pos zero) (negsuc b) h k =
+    absurd (let z = mod_below 0 (suc b) (omega arith) in omega (arith, ints))
 floor-above_negative (pos (suc a)) (negsuc b) h k =
     let e = div-pred_other a (suc b) (omega arith) (λ z. omega (arith, ints)) in
     omega (arith, ints)
 floor-above_negative (negsuc a) (negsuc b) h k = absurd (omega (arith, ints))
 
-pub floor-exact_negative : (a b : ℤ) → b <ℤ pos 0 → int_rem a b ≤ℤ pos 0 → floor_of a b ≡ int_div a b
+pub floor-exact_negative : (a b : ℤ) → b <ℤ pos 0 → int_rem a b ≤ℤ pos 0 → floor_of a b
+    ≡ int_div a b
 floor-exact_negative a (pos b) h k = absurd (omega (arith, ints))
 floor-exact_negative (pos zero) (negsuc b) h k = omega (arith, ints)
 floor-exact_negative (pos (suc a)) (negsuc b) h k =
@@ -75,10 +81,12 @@ floor_fits-above (pos a) (pos b) f h = let d = div-le_self a b in omega (arith, 
 floor_fits-above (negsuc a) (pos b) f h = let d = div-le_self a b in omega (arith, ints)
 floor_fits-above a (negsuc b) f h = absurd (omega (arith, ints))
 
-pub floor_fits-above_negative : (a b : ℤ) → FitsSigned w128 a → b <ℤ pos 0 → pos 0 <ℤ int_rem a b → FitsSigned w128 (floor_of a b)
+pub floor_fits-above_negative : (a b : ℤ) → FitsSigned w128 a → b <ℤ pos 0 → pos 0 <ℤ int_rem a b
+    → FitsSigned w128 (floor_of a b)
 floor_fits-above_negative a (pos b) f h k = absurd (omega (arith, ints))
 floor_fits-above_negative (pos zero) (negsuc b) f h k = omega (arith, ints)
-floor_fits-above_negative (pos (suc a)) (negsuc b) f h k = let d = div-le_self a (suc b) in omega (arith, ints)
+floor_fits-above_negative (pos (suc a)) (negsuc b) f h k = let d =
+    div-le_self a (suc b) in omega (arith, ints)
 floor_fits-above_negative (negsuc a) (negsuc b) f h k = absurd (omega (arith, ints))
 
 pub rem_fits : (a b : ℤ) → FitsSigned w128 a → FitsSigned w128 (int_rem a b)

@@ -1,5 +1,6 @@
 -- Fixed-point numbers of 40 bits behind the point: `raw` counts units of 2^-40.
-use Rattle.std.specs.Prelude.{suc, ◌^◌, ◌-◌, ◌≢◌, Bool, ℤ, pos, negsuc, neg_ℤ, ◌+ℤ◌, ◌-ℤ◌, ◌*ℤ◌, nat_lt, ◌&&◌, if◌then◌else◌, FitsSigned}
+use Rattle.std.specs.Prelude.{suc, ◌^◌, ◌-◌, ◌≢◌, Bool, ℤ, pos, negsuc, neg_ℤ, ◌+ℤ◌, ◌-ℤ◌, ◌*ℤ◌}
+use Rattle.std.specs.Prelude.{nat_lt, ◌&&◌, if◌then◌else◌, FitsSigned}
 use Rattle.std.specs.Int.{w128, int_div_euclid, saturate_signed}
 use Rattle.bl_fixed.specs.declared.Fixed.{Fixed}
 use lib.Signed.{mag}
@@ -34,7 +35,8 @@ CanMultiply a b = FitsSigned w128 (a.raw *ℤ b.raw)
 abbrev pub CanDivide : Fixed → Fixed → Type 0
 CanDivide a b = (b.raw ≢ pos 0) × FitsSigned w128 (a.raw *ℤ one) × FitsSigned w128 (quotient_of a b)
 
--- ---- operations that always answer: where i128 does not hold a number on the way, the end of i128 nearest to the exact result
+-- ---- operations that always answer: where i128 does not hold a number on the way, the end of
+-- i128 nearest to the exact result
 
 -- an `i128` holds z
 abbrev pub fits_i128 : ℤ → Bool
@@ -52,10 +54,14 @@ unfoldable pub saturated_difference : Fixed → Fixed → Fixed
 saturated_difference a b = record { raw = saturate_signed w128 (difference_of a b) }
 
 unfoldable pub saturated_product : Fixed → Fixed → Fixed
-saturated_product a b = record { raw = if fits_i128 (a.raw *ℤ b.raw) then product_of a b else nearest_end (product_of a b) }
+saturated_product a b = record {
+  raw = if fits_i128 (a.raw *ℤ b.raw) then product_of a b
+      else nearest_end (product_of a b);
+}
 
 unfoldable pub saturated_quotient : Fixed → Fixed → Fixed
 saturated_quotient a b = record {
   raw =
-      if fits_i128 (a.raw *ℤ one) && fits_i128 (quotient_of a b) then quotient_of a b else nearest_end (quotient_of a b);
+      if fits_i128 (a.raw *ℤ one) && fits_i128 (quotient_of a b) then quotient_of a b
+      else nearest_end (quotient_of a b);
 }

@@ -1,10 +1,15 @@
-//! Fixed-point numbers: whole numbers of units of 2^-40 in an `i128`.
-//! Each operation gives the exact result rounded down, or None where a number on the way leaves `i128`.
+//! Base: fixed-point numbers, whole numbers of units of 2^-40 in an `i128`.
+//! Each operation gives the exact result rounded down, or None where a number on the way leaves
+//! `i128`.
 #![tactic(auto)]
 
-ghost use Rattle.std.specs.Prelude.{◌≡◌, ◌≢◌, if◌then◌else◌, ◌-◌, pos, negsuc, ◌^◌, ◌+ℤ◌, ◌*ℤ◌, FitsSigned, SomeIff, int_div, int_rem};
+ghost use Rattle.std.specs.Prelude.{◌≡◌, ◌≢◌, if◌then◌else◌, ◌-◌, pos, negsuc, ◌^◌, ◌+ℤ◌, ◌*ℤ◌};
+ghost use Rattle.std.specs.Prelude.{FitsSigned, SomeIff, int_div, int_rem};
 ghost use Rattle.std.specs.Int.{w128};
-ghost use Rattle.bl_fixed.specs.Fixed.{one, floor_of, sum_of, difference_of, product_of, quotient_of, CanMultiply, CanDivide, nearest_end, saturated_sum, saturated_difference, saturated_product, saturated_quotient};
+ghost use Rattle.bl_fixed.specs.Fixed.{one, floor_of, sum_of, difference_of, product_of};
+ghost use Rattle.bl_fixed.specs.Fixed.{quotient_of, CanMultiply, CanDivide, nearest_end};
+ghost use Rattle.bl_fixed.specs.Fixed.{saturated_sum, saturated_difference, saturated_product};
+ghost use Rattle.bl_fixed.specs.Fixed.{saturated_quotient};
 
 /// A fixed-point number: `raw` units of 2^-40.
 #[derive(Clone, Copy, Debug, PartialEq, Eq, PartialOrd, Ord)]
@@ -36,7 +41,8 @@ pub fn add(a: Fixed, b: Fixed) -> Option<Fixed>
 
 /// The difference; None exactly where its raw number leaves `i128`.
 pub fn sub(a: Fixed, b: Fixed) -> Option<Fixed>
-    ensures { SomeIff result (FitsSigned w128 (difference_of a b)) (record { raw = difference_of a b }) }
+    ensures { SomeIff result (FitsSigned w128 (difference_of a b))
+        (record { raw = difference_of a b }) }
 {
     a.raw.checked_sub(b.raw).map(|raw| Fixed { raw })
 }
@@ -50,7 +56,8 @@ pub fn mul(a: Fixed, b: Fixed) -> Option<Fixed>
     })
 }
 
-// The exact product, where an `i128` holds it: always so for two numbers of 64 bits, which are tried first.
+// The exact product, where an `i128` holds it: always so for two numbers of 64 bits, which are
+// tried first.
 fn exact_product(a: i128, b: i128) -> Option<i128>
     ensures { SomeIff result (FitsSigned w128 (a *ℤ b)) (a *ℤ b) }
 {

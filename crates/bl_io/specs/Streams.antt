@@ -1,5 +1,6 @@
 -- What whole reads and writes leave. `None` is a source or a sink that tells no bytes.
-use Rattle.std.specs.Prelude.{◌≡◌, ◌≤◌, ℕ, List, length, take, drop, ◌++◌, ⊤, Some, None, MatchResult}
+use Rattle.std.specs.Prelude.{◌≡◌, ◌≤◌, ℕ, List, length, take, drop, ◌++◌, ⊤, Some, None}
+use Rattle.std.specs.Prelude.{MatchResult}
 use Rattle.std.specs.declared.option.Option.{Option}
 use Rattle.std.specs.declared.result.Result.{Result}
 use Rattle.std.specs.Io.KnownBytes.{Consumes, IsAtEnd, Appends, Keeps}
@@ -7,7 +8,8 @@ use Rattle.std.specs.Io.KnownBytes.{Consumes, IsAtEnd, Appends, Keeps}
 -- a read gave the next bytes, none only at the end, and a refused one took nothing
 abbrev pub Gives : {E : Type 0} → Option (List ℕ) → Option (List ℕ) → Result ℕ E → List ℕ → Type 0
 Gives before now result buf =
-    MatchResult result (λ n. Consumes before now (take n buf) × (n ≡ 0 → IsAtEnd now)) (λ _. Keeps before now)
+    MatchResult result (λ n. Consumes before now (take n buf) × (n ≡ 0 → IsAtEnd now))
+    (λ _. Keeps before now)
 
 -- n bytes were taken and appended to a list, none only at the end
 pub record TakesPiece (before now : Option (List ℕ)) (old new : List ℕ) (n : ℕ) : Type 0 where
@@ -18,7 +20,7 @@ pub record TakesPiece (before now : Option (List ℕ)) (old new : List ℕ) (n :
   pub at_end : n ≡ 0 → IsAtEnd now
 
 -- the source was read to its end, and these were the bytes, no more than the limit
-pub record IsWhole (before now : Option (List ℕ)) (limit : ℕ) (bytes : List ℕ) : Type 0 where
+pub record IsReadToEnd (before now : Option (List ℕ)) (limit : ℕ) (bytes : List ℕ) : Type 0 where
   pub taken : Consumes before now bytes
   pub at_end : IsAtEnd now
   pub short : length bytes ≤ limit

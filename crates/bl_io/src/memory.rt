@@ -27,16 +27,31 @@ impl Model for MemorySource {
 
     ghost Value = { Feed };
 
-    ghost view = { λ s. record { left = drop s.taken s.bytes.items; most = s.most; failing = s.failing.items; calls = s.calls; faults = s.faults } };
+    ghost view = { λ s. record {
+      left = drop s.taken s.bytes.items;
+      most = s.most;
+      failing =
+          s.failing.items;
+      calls = s.calls;
+      faults = s.faults;
+    } };
 
     ghost invariant = { λ s. (s.taken ≤ length s.bytes.items) × (1 ≤ s.most) };
 }
 
 impl MemorySource {
-    /// Gives the bytes, at most `most` in a read. The reads with the numbers in `failing`, counted from 1, fail.
+    /// Gives the bytes, at most `most` in a read. The reads with the numbers in `failing`,
+    /// counted from 1, fail.
     pub fn new(bytes: Vec<u8>, most: usize, failing: Vec<u32>) -> MemorySource
         requires { 1 ≤ most }
-        ensures { result ≡ record { left = bytes.items; most = most; failing = failing.items; calls = 0; faults = 0 } }
+        ensures { result ≡ record {
+          left = bytes.items;
+          most = most;
+          failing =
+              failing.items;
+          calls = 0;
+          faults = 0;
+        } }
     {
         MemorySource {
             bytes,
@@ -91,14 +106,24 @@ impl Model for MemorySink {
 
     ghost Value = { Store };
 
-    ghost view = { λ s. record { kept = take s.taken s.bytes.items; most = s.most; room = length s.bytes.items - s.taken; failing = s.failing.items; calls = s.calls; faults = s.faults } };
+    ghost view = { λ s. record {
+      kept = take s.taken s.bytes.items;
+      most = s.most;
+      room =
+          length s.bytes.items - s.taken;
+      failing = s.failing.items;
+      calls = s.calls;
+      faults =
+          s.faults;
+    } };
 
     ghost invariant = { λ s. (s.taken ≤ length s.bytes.items) × (1 ≤ s.most) };
 }
 
 impl MemorySink {
-    /// Takes at most `most` bytes in a write, and `room` in all. The writes and finishes with the numbers in `failing`,
-    /// counted together from 1, fail, and so does a write where no room is left.
+    /// Takes at most `most` bytes in a write, and `room` in all. The writes and finishes with
+    /// the numbers in `failing`, counted together from 1, fail, and so does a write where no
+    /// room is left.
     pub fn new(
         alloc: Global,
         most: usize,
@@ -106,7 +131,15 @@ impl MemorySink {
         failing: Vec<u32>,
     ) -> Result<MemorySink, AllocError>
         requires { 1 ≤ most }
-        ensures { IfOk result (λ s. s ≡ record { kept = []; most = most; room = room; failing = failing.items; calls = 0; faults = 0 }) }
+        ensures { IfOk result (λ s. s ≡ record {
+          kept = [];
+          most = most;
+          room = room;
+          failing =
+              failing.items;
+          calls = 0;
+          faults = 0;
+        }) }
     {
         let bytes = vec![in alloc; 0u8; room]?;
         Ok(MemorySink {

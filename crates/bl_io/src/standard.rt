@@ -1,5 +1,5 @@
-//! Std's readers and writers as sources and sinks, which tell the bytes that those tell, and count the errors
-//! that they get.
+//! Std's readers and writers as sources and sinks, which tell the bytes that those tell, and
+//! count the errors that they get.
 ghost use Rattle.std.specs.Prelude.{◌≡◌};
 
 use crate::{Failed, Sink, Source};

@@ -1,8 +1,10 @@
 //! Whole reads and whole writes.
-ghost use Rattle.std.specs.Prelude.{◌≡◌, ◌+◌, ◌≤◌, ◌<◌, length, vec_len, OnOk, OnErr, IfOk, IfErr, MatchResult};
+ghost use Rattle.std.specs.Prelude.{◌≡◌, ◌+◌, ◌≤◌, ◌<◌, length, vec_len, OnOk, OnErr, IfOk};
+ghost use Rattle.std.specs.Prelude.{IfErr, MatchResult};
 ghost use Rattle.std.specs.Io.KnownBytes.{Appends, Keeps};
 ghost use Rattle.bl_io.specs.Causes.{Rose, HasCause};
-ghost use Rattle.bl_io.specs.Streams.{IsWhole, TakesPiece, Takes, TakesAtMost, ReadsWithin, AppendsPrefix};
+ghost use Rattle.bl_io.specs.Streams.{IsReadToEnd, TakesPiece, Takes, TakesAtMost, ReadsWithin};
+ghost use Rattle.bl_io.specs.Streams.{AppendsPrefix};
 
 use crate::{Failed, Sink, Source};
 use std::alloc::{AllocError, Global};
@@ -47,16 +49,24 @@ impl From<AllocError> for ReadEnd {
 /// How many bytes a read asks for at most.
 const PIECE: usize = 65_536;
 
-/// The bytes of a source, read to its end. It asks for at most 65,536 bytes at a time, and for no more than one byte past
-/// the limit. `Fault` comes only where the source failed, `TooLong` exactly where it has more bytes than the limit, and
-/// `Memory` only where neither is known: the source may then have been read in part.
+/// The bytes of a source, read to its end. It asks for at most 65,536 bytes at a time, and for
+/// no more than one byte past the limit. `Fault` comes only where the source failed, `TooLong`
+/// exactly where it has more bytes than the limit, and `Memory` only where neither is known: the
+/// source may then have been read in part.
 pub fn read_all<S: Source>(alloc: Global, source: &mut S, limit: usize) -> Result<Vec<u8>, ReadEnd>
-    ensures whole { IfOk result (λ bytes. IsWhole (S.left source.old) (S.left source.new) limit bytes.items) }
+    ensures whole { IfOk result (λ bytes. IsReadToEnd (S.left source.old) (S.left source.new)
+        limit bytes.items) }
     ensures count { OnOk result (S.faults source.new ≡ S.faults source.old) }
-    ensures long { IfErr result (λ e. e ≡ ReadEnd.TooLong → Takes (S.left source.old) (S.left source.new) (limit + 1)) }
-    ensures short { IfErr result (λ e. e ≡ ReadEnd.Fault → TakesAtMost (S.left source.old) (S.left source.new) limit) }
-    ensures fault { IfErr result (λ e. e ≡ ReadEnd.Fault → Rose (S.faults source.old) (S.faults source.new)) }
-    ensures within { MatchResult result (λ _. ReadsWithin (S.left source.old) (S.left source.new) (S.faults source.old) (S.faults source.new) limit) (λ e. e ≡ ReadEnd.Memory → ReadsWithin (S.left source.old) (S.left source.new) (S.faults source.old) (S.faults source.new) limit) }
+    ensures long { IfErr result (λ e. e ≡ ReadEnd.TooLong
+        → Takes (S.left source.old) (S.left source.new) (limit + 1)) }
+    ensures short { IfErr result (λ e. e ≡ ReadEnd.Fault
+        → TakesAtMost (S.left source.old) (S.left source.new) limit) }
+    ensures fault { IfErr result
+        (λ e. e ≡ ReadEnd.Fault → Rose (S.faults source.old) (S.faults source.new)) }
+    ensures within { MatchResult result (λ _. ReadsWithin (S.left source.old) (S.left source.new)
+        (S.faults source.old) (S.faults source.new) limit)
+        (λ e. e ≡ ReadEnd.Memory → ReadsWithin (S.left source.old) (S.left source.new)
+        (S.faults source.old) (S.faults source.new) limit) }
     ensures later { S.faults source.old ≤ S.faults source.new }
 {
     let mut buf = zeros(alloc, PIECE)?;
@@ -71,7 +81,8 @@ pub fn read_all<S: Source>(alloc: Global, source: &mut S, limit: usize) -> Resul
     }
 }
 
-// A buffer. Its length stays a variable here: a list of 65,536 zeros is too long for a proof to look at.
+// A buffer. Its length stays a variable here: a list of 65,536 zeros is too long for a proof to
+// look at.
 fn zeros(alloc: Global, len: usize) -> Result<Vec<u8>, AllocError>
     ensures { IfOk result (λ buf. vec_len buf ≡ len) }
 {
@@ -87,13 +98,19 @@ fn read_piece<S: Source>(
 ) -> Result<usize, ReadEnd>
     requires some { 0 < length buf.old }
     ensures fits { IfOk result (λ n. n ≤ room) }
-    ensures piece { IfOk result (λ n. TakesPiece (S.left source.old) (S.left source.new) bytes.old.items bytes.new.items n) }
+    ensures piece { IfOk result (λ n. TakesPiece (S.left source.old) (S.left source.new)
+        bytes.old.items bytes.new.items n) }
     ensures count { OnOk result (S.faults source.new ≡ S.faults source.old) }
     ensures later { S.faults source.old ≤ S.faults source.new }
-    ensures unread { IfErr result (λ e. e ≡ ReadEnd.Fault → Keeps (S.left source.old) (S.left source.new)) }
-    ensures fault { IfErr result (λ e. e ≡ ReadEnd.Fault → Rose (S.faults source.old) (S.faults source.new)) }
-    ensures long { IfErr result (λ e. e ≡ ReadEnd.TooLong → Takes (S.left source.old) (S.left source.new) (room + 1)) }
-    ensures memory { IfErr result (λ e. e ≡ ReadEnd.Memory → ReadsWithin (S.left source.old) (S.left source.new) (S.faults source.old) (S.faults source.new) room) }
+    ensures unread { IfErr result
+        (λ e. e ≡ ReadEnd.Fault → Keeps (S.left source.old) (S.left source.new)) }
+    ensures fault { IfErr result
+        (λ e. e ≡ ReadEnd.Fault → Rose (S.faults source.old) (S.faults source.new)) }
+    ensures long { IfErr result (λ e. e ≡ ReadEnd.TooLong
+        → Takes (S.left source.old) (S.left source.new) (room + 1)) }
+    ensures memory { IfErr result (λ e. e ≡ ReadEnd.Memory
+        → ReadsWithin (S.left source.old) (S.left source.new) (S.faults source.old)
+        (S.faults source.new) room) }
 {
     let ask = room.min(buf.len() - 1) + 1;
     let piece = &mut buf[..ask];
@@ -105,8 +122,8 @@ fn read_piece<S: Source>(
     Ok(count)
 }
 
-/// Hands the sink the whole text, each time all that is left of it. Where the sink fails, a prefix of the text stands.
-/// Takes no memory, and does not finish the sink.
+/// Hands the sink the whole text, each time all that is left of it. Where the sink fails, a
+/// prefix of the text stands. Takes no memory, and does not finish the sink.
 pub fn write_all<K: Sink>(sink: &mut K, text: &[u8]) -> Result<(), Failed>
     ensures whole { OnOk result (Appends (K.kept sink.old) (K.kept sink.new) text.now) }
     ensures part { OnErr result (AppendsPrefix (K.kept sink.old) (K.kept sink.new) text.now) }

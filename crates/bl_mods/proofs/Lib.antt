@@ -7,3 +7,4 @@ pub mod Diffing
 pub mod Going
 pub mod Overlays
 pub mod InTurn
+pub mod OneMore

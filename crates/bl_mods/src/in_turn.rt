@@ -1,9 +1,11 @@
 //! Two modification lists, one after the other, as one.
-ghost use Rattle.std.specs.Prelude.{◌≡◌, ◌<◌, ◌≤◌, ◌+◌, ◌^◌, [], ◌∷◌, ◌++◌, List, ℕ, length, drop, take, true, All, IfOk, IfSome, IfNone};
+ghost use Rattle.std.specs.Prelude.{◌≡◌, ◌<◌, ◌≤◌, ◌+◌, ◌^◌, [], ◌∷◌, ◌++◌, List, ℕ, length};
+ghost use Rattle.std.specs.Prelude.{drop, take, slice_set, true, All, IfOk, IfSome, IfNone};
 ghost use Rattle.bl_mods.specs.declared.mods.Mod.{Mod as Entry};
 ghost use Rattle.bl_mods.specs.Rising.{AreRising, IsRising, is_rising_from};
-ghost use Rattle.bl_mods.specs.Mods.{written};
-ghost use Rattle.bl_mods.specs.InTurn.{overlaid, dropped_in_turn, places_below, relisted_in_turn, length_after, DropsWithin, DoesBoth};
+ghost use Rattle.bl_mods.specs.Mods.{written, differences, DiffersAt};
+ghost use Rattle.bl_mods.specs.InTurn.{overlaid, dropped_in_turn, places_below, relisted_in_turn};
+ghost use Rattle.bl_mods.specs.InTurn.{length_after, DropsWithin, DoesBoth};
 
 use crate::items::Items;
 use crate::mods::{FieldMods, ListMods, Mod, Places, kept_behind};
@@ -18,13 +20,40 @@ struct Step<E> {
 }
 
 impl<T: Copy + Default> FieldMods<T> {
-    /// The entries that do what these do and then the later ones: where both have a place, the later entry. `AllocError` where there is no memory.
+    /// The entries that do what these do and then the later ones: where both have a place, the
+    /// later entry. `AllocError` where there is no memory.
     pub fn then(&self, alloc: Global, later: &FieldMods<T>) -> Result<FieldMods<T>, AllocError>
         ensures exact { IfOk result (λ both. both ≡ overlaid self.now later.now) }
-        ensures applied { IfOk result (λ both. (list : List T) → written both list ≡ written later.now (written self.now list)) }
-        ensures fits { IfOk result (λ both. (n : ℕ) → All (λ m. m.place < n) self.now → All (λ m. m.place < n) later.now → All (λ m. m.place < n) both) }
+        ensures applied { IfOk result (λ both. (list : List T) → written both list
+            ≡ written later.now (written self.now list)) }
+        ensures fits { IfOk result (λ both. (n : ℕ) → All (λ m. m.place < n) self.now
+            → All (λ m. m.place < n) later.now → All (λ m. m.place < n) both) }
     {
         overlay(alloc, self.entries(), later.entries())
+    }
+}
+
+impl<T: Copy + Eq + Default> FieldMods<T> {
+    /// The entries, and one more in the order of their places, instead of the one at its place
+    /// if one stands there. Where the entries are the differences of two lists, it gives those
+    /// that stand once the new list has this entry at the place, if the old one has another
+    /// there. `AllocError` where there is no memory.
+    pub fn with_entry(
+        &self,
+        alloc: Global,
+        place: u32,
+        entry: T,
+    ) -> Result<FieldMods<T>, AllocError>
+        ensures exact { IfOk result (λ mods.
+            mods ≡ overlaid self.now (record { place = place; entry = entry } ∷ [])) }
+        ensures differences { IfOk result (λ mods. (old new : List T)
+            → self.now ≡ differences T.eq old new → place < length new
+            → DiffersAt T.eq old place entry
+            → mods ≡ differences T.eq old (slice_set new place entry)) }
+    {
+        let mut one = FieldMods::new(alloc);
+        one.push(place, entry)?;
+        self.then(alloc, &one)
     }
 }
 
@@ -38,7 +67,8 @@ fn overlay<T: Copy + Default>(
     requires later { AreRising later.now }
     ensures { IfOk result (λ both. both ≡ overlaid first.now later.now) }
 {
-    let mut both = FieldMods::new(alloc);
+    let room = first.len().saturating_add(later.len());
+    let mut both = FieldMods::with_room(alloc, room)?;
     let mut at = 0;
     let mut next = 0;
     while let Some(step) = next_entry(first, at, later, next) {
@@ -59,8 +89,10 @@ fn next_entry<T: Copy>(
     requires rising { AreRising first.now }
     requires at { at ≤ length first.now }
     requires next { next ≤ length later.now }
-    ensures entry { IfSome result (λ step. overlaid (drop at first.now) (drop next later.now) ≡ step.entry ∷ overlaid (drop step.at first.now) (drop step.next later.now)) }
-    ensures on { IfSome result (λ step. (at ≤ step.at) × (step.at ≤ length first.now) × (next ≤ step.next) × (step.next ≤ length later.now) × (at + next < step.at + step.next)) }
+    ensures entry { IfSome result (λ step. overlaid (drop at first.now) (drop next later.now)
+        ≡ step.entry ∷ overlaid (drop step.at first.now) (drop step.next later.now)) }
+    ensures on { IfSome result (λ step. (at ≤ step.at) × (step.at ≤ length first.now)
+        × (next ≤ step.next) × (step.next ≤ length later.now) × (at + next < step.at + step.next)) }
     ensures ended { IfNone result (overlaid (drop at first.now) (drop next later.now) ≡ []) }
 {
     if next == later.len() {
@@ -97,7 +129,9 @@ fn next_entry<T: Copy>(
 }
 
 impl<C: Drop> ListMods<C> {
-    /// For a list of `length` items, the modifications that do what these do and then the later ones; an item that is added and later dropped is in neither. `AllocError` where there is no memory.
+    /// For a list of `length` items, the modifications that do what these do and then the later
+    /// ones; an item that is added and later dropped is in neither. `AllocError` where there is
+    /// no memory.
     pub fn then(
         &self,
         alloc: Global,
@@ -162,7 +196,7 @@ fn drop_in_turn(alloc: Global, first: &[u32], later: &[u32]) -> Result<Places, A
     requires short { All (λ q. q + length first.now < 2 ^ 32) later.now }
     ensures { IfOk result (λ both. both ≡ dropped_in_turn 0 first.now later.now) }
 {
-    let mut both = Places::new(alloc);
+    let mut both = Places::with_room(alloc, first.len().saturating_add(later.len()))?;
     let mut at = 0;
     let mut next = 0;
     while let Some(step) = next_drop(first, at, later, next) {
@@ -179,9 +213,13 @@ fn next_drop(first: &[u32], at: usize, later: &[u32], next: usize) -> Option<Ste
     requires short { All (λ q. q + length first.now < 2 ^ 32) later.now }
     requires at { at ≤ length first.now }
     requires next { next ≤ length later.now }
-    ensures entry { IfSome result (λ step. dropped_in_turn at (drop at first.now) (drop next later.now) ≡ step.entry ∷ dropped_in_turn step.at (drop step.at first.now) (drop step.next later.now)) }
-    ensures on { IfSome result (λ step. (at ≤ step.at) × (step.at ≤ length first.now) × (next ≤ step.next) × (step.next ≤ length later.now) × (at + next < step.at + step.next)) }
-    ensures ended { IfNone result (dropped_in_turn at (drop at first.now) (drop next later.now) ≡ []) }
+    ensures entry { IfSome result (λ step. dropped_in_turn at (drop at first.now)
+        (drop next later.now) ≡ step.entry ∷ dropped_in_turn step.at (drop step.at first.now)
+        (drop step.next later.now)) }
+    ensures on { IfSome result (λ step. (at ≤ step.at) × (step.at ≤ length first.now)
+        × (next ≤ step.next) × (step.next ≤ length later.now) × (at + next < step.at + step.next)) }
+    ensures ended { IfNone result (dropped_in_turn at (drop at first.now) (drop next later.now)
+        ≡ []) }
 {
     if next == later.len() {
         if at == first.len() {

@@ -1,5 +1,6 @@
 //! A list and a shared value, which contracts see as the list of its elements and as the value.
-ghost use Rattle.std.specs.Prelude.{◌≡◌, ◌<◌, [], ◌∷◌, ◌++◌, length, slice_set, OnErr, OnOk, IfOk, IsTrue, ◌↔◌};
+ghost use Rattle.std.specs.Prelude.{◌≡◌, ◌<◌, [], ◌∷◌, ◌++◌, length, slice_set, OnErr, OnOk};
+ghost use Rattle.std.specs.Prelude.{IfOk, IsTrue, ◌↔◌};
 
 use std::alloc::{AllocError, Global};
 use std::marker::Model;
@@ -27,6 +28,14 @@ impl<T> Items<T> {
         Items {
             elements: Vec::new(alloc),
         }
+    }
+
+    /// The empty list, with room for this many elements. `AllocError` where there is no memory.
+    pub fn with_room(alloc: Global, room: usize) -> Result<Items<T>, AllocError>
+        ensures { IfOk result (λ list. list ≡ []) }
+    {
+        let elements = Vec::with_capacity(alloc, room)?;
+        Ok(Items { elements })
     }
 
     /// The list of these elements. Takes no memory.
@@ -111,7 +120,8 @@ impl<C> Duplicate for Shared<C> {
 }
 
 impl<T: Duplicate + Drop> Items<T> {
-    /// Appends equal elements. `AllocError` where there is no memory; the list then has some of them.
+    /// Appends equal elements. `AllocError` where there is no memory; the list then has some of
+    /// them.
     pub fn extend(&mut self, elements: &[T]) -> Result<(), AllocError>
         ensures { OnOk result (self.new ≡ self.old ++ elements.now) }
     {
@@ -125,9 +135,19 @@ impl<T: Duplicate + Drop> Items<T> {
     pub fn duplicate_all(&self) -> Result<Items<T>, AllocError>
         ensures { IfOk result (λ copy. copy ≡ self.now) }
     {
-        let mut copy = Items::new(self.allocator());
+        let mut copy = Items::with_room(self.allocator(), self.len())?;
         copy.extend(self.as_slice())?;
         Ok(copy)
+    }
+}
+
+impl<T: Copy> Items<T> {
+    /// An equal list, copied at once. `AllocError` where there is no memory.
+    pub fn copy_all(&self) -> Result<Items<T>, AllocError>
+        ensures { IfOk result (λ copy. copy ≡ self.now) }
+    {
+        let elements = Vec::from_slice(self.allocator(), self.as_slice())?;
+        Ok(Items { elements })
     }
 }
 

@@ -1,4 +1,4 @@
-//! Lists that contracts see as lists, and modification lists.
+//! Base: lists that contracts see as lists, and modification lists.
 #![tactic(auto)]
 
 mod in_turn;

@@ -1,5 +1,7 @@
-//! Modification lists: entries that are written at places, places that are dropped and items that are added.
-ghost use Rattle.std.specs.Prelude.{◌≡◌, ◌<◌, ◌≤◌, ◌+◌, ◌^◌, true, List, [], ◌∷◌, ◌++◌, length, drop, All, slice_index, IsTrue, ◌↔◌, OnErr, OnOk, IfOk};
+//! Modification lists: entries that are written at places, places that are dropped and items
+//! that are added.
+ghost use Rattle.std.specs.Prelude.{◌≡◌, ◌<◌, ◌≤◌, ◌+◌, ◌^◌, true, List, [], ◌∷◌, ◌++◌, length};
+ghost use Rattle.std.specs.Prelude.{drop, All, slice_index, IsTrue, ◌↔◌, OnErr, OnOk, IfOk};
 ghost use Rattle.bl_mods.specs.Mods.{gone_from, fresh_in, kept_from, IsPartThenFresh, IsItemAt};
 ghost use Rattle.bl_mods.specs.Rising.{is_rising_from};
 
@@ -65,10 +67,28 @@ impl<T: Copy + Default> FieldMods<T> {
         }
     }
 
-    /// Appends an entry behind those before it, or leaves the list as it was where there is no memory.
+    /// No entry, with room for this many. `AllocError` where there is no memory.
+    pub fn with_room(alloc: Global, room: usize) -> Result<FieldMods<T>, AllocError>
+        ensures { IfOk result (λ mods. mods ≡ []) }
+    {
+        let mods = ShortItems::with_room(alloc, room)?;
+        Ok(FieldMods { mods })
+    }
+
+    /// Equal entries. `AllocError` where there is no memory.
+    pub fn copy_all(&self, alloc: Global) -> Result<FieldMods<T>, AllocError>
+        ensures { IfOk result (λ copy. copy ≡ self.now) }
+    {
+        let mods = self.mods.copy_all(alloc)?;
+        Ok(FieldMods { mods })
+    }
+
+    /// Appends an entry behind those before it, or leaves the list as it was where there is no
+    /// memory.
     pub fn push(&mut self, place: u32, entry: T) -> Result<(), AllocError>
         requires { All (λ m. m.place < place) self.old }
-        ensures ok { OnOk result (self.new ≡ self.old ++ record { place = place; entry = entry } ∷ []) }
+        ensures ok { OnOk result (self.new ≡ self.old ++ record { place = place; entry = entry }
+            ∷ []) }
         ensures err { OnErr result (self.new ≡ self.old) }
     {
         self.mods.push(Mod { place, entry })?;
@@ -109,13 +129,17 @@ impl<T: Copy + Eq + Default> FieldMods<T> {
     ghost use Rattle.bl_mods.specs.declared.mods.Mod.{Mod as Entry};
     ghost use Rattle.bl_mods.specs.Mods.{written, differences};
 
-    /// Exactly the places where two lists differ, each with the new entry. Where equal entries are one and the same, it makes the old list the new one, and no other list of entries that does has fewer. `AllocError` where there is no memory.
+    /// Exactly the places where two lists differ, each with the new entry. Where equal entries
+    /// are one and the same, it makes the old list the new one, and no other list of entries
+    /// that does has fewer. `AllocError` where there is no memory.
     pub fn diff(alloc: Global, old: &[T], new: &[T]) -> Result<FieldMods<T>, AllocError>
         requires same_length { length old.now ≡ length new.now }
         requires short { length old.now < 2 ^ 32 }
         ensures exact { IfOk result (λ mods. mods ≡ differences T.eq old.now new.now) }
-        ensures applied { ((x y : T) → T.eq x y ≡ true → x ≡ y) → IfOk result (λ mods. written mods old.now ≡ new.now) }
-        ensures fewest { IfOk result (λ mods. (others : List (Entry T)) → written others old.now ≡ new.now → length mods ≤ length others) }
+        ensures applied { ((x y : T) → T.eq x y ≡ true → x ≡ y)
+            → IfOk result (λ mods. written mods old.now ≡ new.now) }
+        ensures fewest { IfOk result (λ mods. (others : List (Entry T)) → written others old.now
+            ≡ new.now → length mods ≤ length others) }
     {
         FieldMods::differing(alloc, old, new)
     }
@@ -126,7 +150,7 @@ impl<T: Copy + Eq + Default> FieldMods<T> {
         requires short { length old.now < 2 ^ 32 }
         ensures { IfOk result (λ mods. mods ≡ differences T.eq old.now new.now) }
     {
-        let mut mods = FieldMods::new(alloc);
+        let mut mods = FieldMods::with_room(alloc, count_unlike(old, new))?;
         for (at, entry) in new.iter().enumerate() {
             if old[at] == *entry {
                 continue;
@@ -135,6 +159,20 @@ impl<T: Copy + Eq + Default> FieldMods<T> {
         }
         Ok(mods)
     }
+}
+
+// How many entries of the lists differ.
+fn count_unlike<T: Eq>(old: &[T], new: &[T]) -> usize
+    requires { length old.now ≡ length new.now }
+    ensures { result ≤ length new.now }
+{
+    let mut count = 0;
+    for (at, entry) in new.iter().enumerate() {
+        if old[at] != *entry {
+            count += 1;
+        }
+    }
+    count
 }
 
 /// Places in rising order. Contracts see the list.
@@ -167,7 +205,24 @@ impl Places {
         }
     }
 
-    /// Appends a place behind those before it, or leaves the list as it was where there is no memory.
+    /// No place, with room for this many. `AllocError` where there is no memory.
+    pub fn with_room(alloc: Global, room: usize) -> Result<Places, AllocError>
+        ensures { IfOk result (λ places. places ≡ []) }
+    {
+        let places = ShortItems::with_room(alloc, room)?;
+        Ok(Places { places })
+    }
+
+    /// Equal places. `AllocError` where there is no memory.
+    pub fn copy_all(&self, alloc: Global) -> Result<Places, AllocError>
+        ensures { IfOk result (λ copy. copy ≡ self.now) }
+    {
+        let places = self.places.copy_all(alloc)?;
+        Ok(Places { places })
+    }
+
+    /// Appends a place behind those before it, or leaves the list as it was where there is no
+    /// memory.
     pub fn push(&mut self, place: u32) -> Result<(), AllocError>
         requires { All (λ p. p < place) self.old }
         ensures ok { OnOk result (self.new ≡ self.old ++ place ∷ []) }
@@ -197,7 +252,8 @@ impl Places {
     }
 }
 
-/// What a list, whose places are counted from `start`, keeps without these places. `AllocError` where there is no memory.
+/// What a list, whose places are counted from `start`, keeps without these places. `AllocError`
+/// where there is no memory.
 pub(crate) fn kept_behind<T: Duplicate + Drop>(
     alloc: Global,
     places: &[u32],
@@ -207,7 +263,7 @@ pub(crate) fn kept_behind<T: Duplicate + Drop>(
     requires { is_rising_from start places.now ≡ true }
     ensures { IfOk result (λ rest. rest ≡ kept_from start places.now list.now) }
 {
-    let mut rest = Items::new(alloc);
+    let mut rest = Items::with_room(alloc, list.len().saturating_sub(places.len()))?;
     let mut next = 0;
     for (at, element) in list.iter().enumerate() {
         if is_next_place(places, next, start, at) {
@@ -222,7 +278,8 @@ pub(crate) fn kept_behind<T: Duplicate + Drop>(
 // Whether the list of places goes on with the place that stands this far behind `start`.
 fn is_next_place(places: &[u32], next: usize, start: usize, at: usize) -> bool
     requires { next < length places.now → start ≤ slice_index places.now next }
-    ensures { IsTrue result ↔ (next < length places.now × (slice_index places.now next ≡ start + at)) }
+    ensures { IsTrue result ↔
+        (next < length places.now × (slice_index places.now next ≡ start + at)) }
 {
     next < places.len() && places[next] as usize - start == at
 }
@@ -248,7 +305,18 @@ impl<C: Drop> ListMods<C> {
         }
     }
 
-    /// Drops the places and then adds the items at the end. `AllocError` where there is no memory; the list is then as it was.
+    /// Equal modifications, which share the added items. `AllocError` where there is no memory.
+    pub fn duplicate(&self, alloc: Global) -> Result<ListMods<C>, AllocError>
+        ensures { IfOk result (λ copy. copy ≡ self.now) }
+    {
+        Ok(ListMods {
+            dropped: self.dropped.copy_all(alloc)?,
+            added: self.added.duplicate_all()?,
+        })
+    }
+
+    /// Drops the places and then adds the items at the end. `AllocError` where there is no
+    /// memory; the list is then as it was.
     pub fn apply(&self, list: &mut Items<Shared<C>>) -> Result<(), AllocError>
         requires { All (λ p. p < length list.old) self.now.dropped }
         ensures ok { OnOk result (list.new ≡ relisted self.now list.old) }
@@ -263,9 +331,11 @@ impl<C: Drop> ListMods<C> {
 
 impl<C: Item + Drop> ListMods<C> {
     ghost use Rattle.std.specs.Prelude.{AllPairs, ◌≢◌};
-    ghost use Rattle.bl_mods.specs.Mods.{relisted, list_differences, gone_from, fresh_in, IsPartThenFresh};
+    ghost use Rattle.bl_mods.specs.Mods.{relisted, list_differences, gone_from, fresh_in};
+    ghost use Rattle.bl_mods.specs.Mods.{IsPartThenFresh};
 
-    /// The places of the items that the new list lacks, and the items that the old one lacks, by id. Applied to the old list it gives the new one. `AllocError` where there is no memory.
+    /// The places of the items that the new list lacks, and the items that the old one lacks, by
+    /// id. Applied to the old list it gives the new one. `AllocError` where there is no memory.
     pub fn diff(
         alloc: Global,
         old: &[Shared<C>],
@@ -293,8 +363,9 @@ impl<C: Item + Drop> ListMods<C> {
         ensures { IfOk result (λ mods. mods ≡ list_differences C.id_of old.now new.now) }
     {
         let (dropped, kept) = gone_places(alloc, old, new)?;
-        let mut added = Items::new(alloc);
-        added.extend(&new[kept..])?;
+        let fresh = &new[kept..];
+        let mut added = Items::with_room(alloc, fresh.len())?;
+        added.extend(fresh)?;
         Ok(ListMods { dropped, added })
     }
 }
@@ -307,7 +378,8 @@ fn gone_places<C: Item>(
 ) -> Result<(Places, usize), AllocError>
     requires short_old { length old.now < 2 ^ 32 }
     requires part { IsPartThenFresh C.id_of old.now new.now }
-    ensures { IfOk result (λ found. (found.0 ≡ gone_from C.id_of 0 old.now new.now) × (drop found.1 new.now ≡ fresh_in C.id_of old.now new.now) × (found.1 ≤ length new.now)) }
+    ensures { IfOk result (λ found. (found.0 ≡ gone_from C.id_of 0 old.now new.now)
+        × (drop found.1 new.now ≡ fresh_in C.id_of old.now new.now) × (found.1 ≤ length new.now)) }
 {
     let mut dropped = Places::new(alloc);
     let mut next = 0;

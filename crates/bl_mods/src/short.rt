@@ -1,14 +1,15 @@
 //! A short list, which contracts see as the list of its elements.
-ghost use Rattle.std.specs.Prelude.{◌≡◌, [], ◌∷◌, ◌++◌, length, OnErr, OnOk, IsTrue, ◌↔◌};
+ghost use Rattle.std.specs.Prelude.{◌≡◌, [], ◌∷◌, ◌++◌, length, OnErr, OnOk, IfOk, IsTrue, ◌↔◌};
 
 use smallvec::SmallVec;
 use std::alloc::{AllocError, Global};
 use std::marker::Model;
 
-/// A list whose first elements lie in the value itself. Contracts see its elements.
+/// A list of which one element lies in the value itself, and more than one in an allocation.
+/// Contracts see its elements.
 #[derive(Drop)]
 pub struct ShortItems<T> {
-    elements: SmallVec<T, 4>,
+    elements: SmallVec<T, 1>,
 }
 
 impl<T> Model for ShortItems<T> {
@@ -27,6 +28,14 @@ impl<T: Default + Drop> ShortItems<T> {
         ShortItems {
             elements: SmallVec::new(alloc),
         }
+    }
+
+    /// The empty list, with room for this many elements. `AllocError` where there is no memory.
+    pub fn with_room(alloc: Global, room: usize) -> Result<ShortItems<T>, AllocError>
+        ensures { IfOk result (λ list. list ≡ []) }
+    {
+        let elements = SmallVec::with_capacity(alloc, room)?;
+        Ok(ShortItems { elements })
     }
 
     /// The elements, in order.
@@ -57,5 +66,15 @@ impl<T: Default + Drop> ShortItems<T> {
         ensures { IsTrue result ↔ (self.now ≡ []) }
     {
         self.elements.is_empty()
+    }
+}
+
+impl<T: Copy + Default> ShortItems<T> {
+    /// An equal list. `AllocError` where there is no memory.
+    pub fn copy_all(&self, alloc: Global) -> Result<ShortItems<T>, AllocError>
+        ensures { IfOk result (λ copy. copy ≡ self.now) }
+    {
+        let elements = SmallVec::from_slice(alloc, self.elements.as_slice())?;
+        Ok(ShortItems { elements })
     }
 }

@@ -1,8 +1,12 @@
 -- A text that has the parts of a number is put together from them.
-use Rattle.std.proofs.Common.{◌≡◌, ◌⊎◌, ℕ, ◌+◌, ◌<◌, Bool, true, false, cond, not, ◌&&◌, ◌||◌, ◌==◌, ℤ, pos, List, [], ◌∷◌, ◌++◌, length, Option, Some, None, option_map, inl, inr, refl, sym, ap, subst, ◌∙◌, arith}
+use Rattle.std.proofs.Common.{◌≡◌, ◌⊎◌, ℕ, ◌+◌, ◌<◌, Bool, true, false, cond, not, ◌&&◌, ◌||◌}
+use Rattle.std.proofs.Common.{◌==◌, ℤ, pos, List, [], ◌∷◌, ◌++◌, length, Option, Some, None}
+use Rattle.std.proofs.Common.{option_map, inl, inr, refl, sym, ap, subst, ◌∙◌, arith}
 use Rattle.std.proofs.lemmas.Bool.{eqb-true}
 use Rattle.std.proofs.lemmas.List.Elements.{All-nil}
-use Rattle.bl_num.specs.Decimals.{Spelled, AreDigits, is_digit, is_empty, has_minus, after_sign, digits_of, after_digits, fraction_of, after_fraction, power_of, exponent_of, spelled_of, negated_if, whole_number}
+use Rattle.bl_num.specs.Decimals.{Spelled, AreDigits, is_digit, is_empty, has_minus, after_sign}
+use Rattle.bl_num.specs.Decimals.{digits_of, after_digits, fraction_of, after_fraction, power_of}
+use Rattle.bl_num.specs.Decimals.{exponent_of, spelled_of, negated_if, whole_number}
 use Rattle.bl_num.specs.Spellings.{IsSign, IsFraction, IsPower, IsExponent, IsSpelling}
 use Rattle.bl_num.proofs.Fronts.{digits_of-digits, front-behind, all_digits}
 
@@ -15,7 +19,8 @@ record SignOf (text : List ℕ) : Type 0 where
 abbrev BytesSign : Bool → ℕ → List ℕ → List ℕ → Type 0
 BytesSign minus b bs rest = (sign : List ℕ) × IsSign minus sign × (b ∷ bs ≡ sign ++ rest)
 
-by_minus : (b : ℕ) (bs : List ℕ) (m : Bool) → (b == 45) ≡ m → (p : Bool) → (b == 43) ≡ p → BytesSign m b bs (cond (p || m) bs (b ∷ bs))
+by_minus : (b : ℕ) (bs : List ℕ) (m : Bool) → (b == 45) ≡ m → (p : Bool) → (b == 43) ≡ p
+    → BytesSign m b bs (cond (p || m) bs (b ∷ bs))
 by_minus b bs true e true f = (45 ∷ [], refl, ap (λ (x : ℕ). x ∷ bs) (eqb-true b 45 e))
 by_minus b bs true e false f = (45 ∷ [], refl, ap (λ (x : ℕ). x ∷ bs) (eqb-true b 45 e))
 by_minus b bs false e true f = (43 ∷ [], inr refl, ap (λ (x : ℕ). x ∷ bs) (eqb-true b 43 f))
@@ -33,10 +38,16 @@ record FractionOf (rest : List ℕ) : Type 0 where
   rest_is : rest ≡ text ++ after_fraction rest
 
 abbrev BytesFraction : Bool → ℕ → List ℕ → Type 0
-BytesFraction t b bs = (text : List ℕ) × IsFraction (cond t (digits_of bs) []) text × (b ∷ bs ≡ text ++ cond t (after_digits bs) (b ∷ bs))
+BytesFraction t b bs = (text : List ℕ) × IsFraction (cond t (digits_of bs) []) text
+    × (b ∷ bs ≡ text ++ cond t (after_digits bs) (b ∷ bs))
 
 by_point : (b : ℕ) (bs : List ℕ) (t : Bool) → (b == 46) ≡ t → BytesFraction t b bs
-by_point b bs true e = (46 ∷ digits_of bs, inl refl, ap (λ (x : ℕ). x ∷ bs) (eqb-true b 46 e) ∙ ap (λ (xs : List ℕ). 46 ∷ xs) (sym (front-behind bs)))
+by_point b bs true e = (
+  46 ∷ digits_of bs,
+  inl refl,
+  ap (λ (x : ℕ). x ∷ bs) (eqb-true b 46 e)
+      ∙ ap (λ (xs : List ℕ). 46 ∷ xs) (sym (front-behind bs)),
+)
 by_point b bs false e = ([], inr (refl, refl), refl)
 
 fraction_text : (rest : List ℕ) → FractionOf rest
@@ -51,23 +62,28 @@ record PowerOf (minus : Bool) (ds : List ℕ) (e : ℤ) : Type 0 where
   all : length (after_digits ds) ≡ 0
   value : e ≡ negated_if minus (whole_number ds)
 
-power_by : (minus : Bool) (ds : List ℕ) (e : ℤ) (empty rest_empty : Bool) → is_empty ds ≡ empty → is_empty (after_digits ds) ≡ rest_empty →
-    cond (not empty && rest_empty) (Some (negated_if minus (whole_number ds))) None ≡ Some e → PowerOf minus ds e
+power_by : (minus : Bool) (ds : List ℕ) (e : ℤ) (empty rest_empty : Bool) → is_empty ds ≡ empty
+    → is_empty (after_digits ds) ≡ rest_empty →
+    cond (not empty && rest_empty) (Some (negated_if minus (whole_number ds))) None ≡ Some e
+    → PowerOf minus ds e
 power_by minus ds e true r h k p = absurd cc
 power_by minus ds e false false h k p = absurd cc
-power_by minus ds e false true h k p = record { some_digit = some ds h; all = none (after_digits ds) k; value = cc } where
-  some : (xs : List ℕ) → is_empty xs ≡ false → 0 < length xs
-  some [] q = absurd cc
-  some (x ∷ xs) q = omega arith
+power_by minus ds e false true h k p =
+    record { some_digit = some ds h; all = none (after_digits ds) k; value = cc } where
+      some : (xs : List ℕ) → is_empty xs ≡ false → 0 < length xs
+      some [] q = absurd cc
+      some (x ∷ xs) q = omega arith
 
-  none : (xs : List ℕ) → is_empty xs ≡ true → length xs ≡ 0
-  none [] q = refl
-  none (x ∷ xs) q = absurd cc
+      none : (xs : List ℕ) → is_empty xs ≡ true → length xs ≡ 0
+      none [] q = refl
+      none (x ∷ xs) q = absurd cc
 
-spelt_power : (b : ℕ) (bs : List ℕ) (e : ℤ) → (b ≡ 101) ⊎ (b ≡ 69) → power_of (has_minus bs) (after_sign bs) ≡ Some e → IsPower e (b ∷ bs)
+spelt_power : (b : ℕ) (bs : List ℕ) (e : ℤ) → (b ≡ 101) ⊎ (b ≡ 69)
+    → power_of (has_minus bs) (after_sign bs) ≡ Some e → IsPower e (b ∷ bs)
 spelt_power b bs e l x =
     let s = sign_of bs in
-    let p = power_by (has_minus bs) (after_sign bs) e (is_empty (after_sign bs)) (is_empty (after_digits (after_sign bs))) refl refl x in
+    let p = power_by (has_minus bs) (after_sign bs) e (is_empty (after_sign bs))
+    (is_empty (after_digits (after_sign bs))) refl refl x in
     record {
       letter = b;
       minus = has_minus bs;
@@ -75,13 +91,15 @@ spelt_power b bs e l x =
       digits = after_sign bs;
       is_letter = l;
       is_sign = s.is_sign;
-      are_digits = subst AreDigits (all_digits (after_sign bs) p.all) (digits_of-digits (after_sign bs));
+      are_digits = subst AreDigits (all_digits (after_sign bs) p.all)
+          (digits_of-digits (after_sign bs));
       some_digit = p.some_digit;
       value = p.value;
       text_is = ap (λ (xs : List ℕ). b ∷ xs) s.text_is;
     }
 
-letter_by : (b : ℕ) (bs : List ℕ) (e : ℤ) (p q : Bool) → (b == 101) ≡ p → (b == 69) ≡ q → cond (p || q) (power_of (has_minus bs) (after_sign bs)) None ≡ Some e → IsPower e (b ∷ bs)
+letter_by : (b : ℕ) (bs : List ℕ) (e : ℤ) (p q : Bool) → (b == 101) ≡ p → (b == 69) ≡ q
+    → cond (p || q) (power_of (has_minus bs) (after_sign bs)) None ≡ Some e → IsPower e (b ∷ bs)
 letter_by b bs e false false h k x = absurd cc
 letter_by b bs e true q h k x = spelt_power b bs e (inl (eqb-true b 101 h)) x
 letter_by b bs e false true h k x = spelt_power b bs e (inr (eqb-true b 69 k)) x
@@ -103,14 +121,35 @@ some-digit [] [] e = absurd cc
 some-digit [] (y ∷ ys) e = omega arith
 some-digit (x ∷ xs) ys e = omega arith
 
-parts_by_test : (minus : Bool) (text : List ℕ) (s : Spelled) (t : Bool) (o : Option ℤ) → is_empty (digits_of text ++ fraction_of (after_digits text)) ≡ t →
+parts_by_test : (minus : Bool) (text : List ℕ) (s : Spelled) (t : Bool) (o : Option ℤ)
+    → is_empty (digits_of text ++ fraction_of (after_digits text)) ≡ t →
     exponent_of (after_fraction (after_digits text)) ≡ o →
-    cond t None (option_map (λ e. record { minus = minus; whole = digits_of text; fraction = fraction_of (after_digits text); exponent = e }) o) ≡ Some s → PartsOf minus text s
+    cond t None
+    (option_map (λ e. record {
+      minus = minus;
+      whole = digits_of text;
+      fraction =
+          fraction_of (after_digits text);
+      exponent = e;
+    }) o) ≡ Some s → PartsOf minus text s
 parts_by_test minus text s true o h k e = absurd cc
 parts_by_test minus text s false None h k e = absurd cc
 parts_by_test minus text s false (Some x) h k e =
-    let q : record { minus = minus; whole = digits_of text; fraction = fraction_of (after_digits text); exponent = x } ≡ s = cc in
-    subst (PartsOf minus text) q (record { some_digit = some-digit (digits_of text) (fraction_of (after_digits text)) h; minus_is = refl; whole_is = refl; fraction_is = refl; exponent_is = k })
+    let q : record {
+      minus = minus;
+      whole = digits_of text;
+      fraction =
+          fraction_of (after_digits text);
+      exponent = x;
+    } ≡ s = cc in
+    subst (PartsOf minus text) q
+    (record {
+      some_digit = some-digit (digits_of text) (fraction_of (after_digits text)) h;
+      minus_is = refl;
+      whole_is = refl;
+      fraction_is = refl;
+      exponent_is = k;
+    })
 
 fraction-digits : (rest : List ℕ) → AreDigits (fraction_of rest)
 fraction-digits [] = All-nil (λ d. is_digit d ≡ true)
@@ -120,14 +159,18 @@ fraction-digits (b ∷ bs) = by (b == 46) where
   by false = All-nil (λ d. is_digit d ≡ true)
 
 -- a text that has parts is put together from them
-pub spelling-spelled_of : (s : Spelled) (text : List ℕ) → spelled_of text ≡ Some s → IsSpelling s text
+pub spelling-spelled_of : (s : Spelled) (text : List ℕ) → spelled_of text ≡ Some s
+    → IsSpelling s text
 spelling-spelled_of s text e =
     let bare = after_sign text in
     let rest = after_digits bare in
-    let p = parts_by_test (has_minus text) bare s (is_empty (digits_of bare ++ fraction_of rest)) (exponent_of (after_fraction rest)) refl refl e in
+    let p = parts_by_test (has_minus text) bare s (is_empty (digits_of bare ++ fraction_of rest))
+    (exponent_of (after_fraction rest)) refl refl e in
     let g = sign_of text in
     let f = fraction_text rest in
-    let whole : bare ≡ s.whole ++ (f.text ++ after_fraction rest) = sym (front-behind bare) ∙ ap (λ (xs : List ℕ). xs ++ rest) (sym p.whole_is) ∙ ap (λ (xs : List ℕ). s.whole ++ xs) f.rest_is in
+    let whole : bare ≡ s.whole ++ (f.text ++ after_fraction rest) = sym (front-behind bare)
+    ∙ ap (λ (xs : List ℕ). xs ++ rest) (sym p.whole_is)
+    ∙ ap (λ (xs : List ℕ). s.whole ++ xs) f.rest_is in
     record {
       sign = g.sign;
       fraction = f.text;

@@ -1,5 +1,7 @@
 -- The digits of a fraction.
-use Rattle.std.proofs.Common.{◌≡◌, ◌≢◌, ℕ, zero, suc, ◌+◌, ◌-◌, ◌*◌, ◌/◌, ◌%◌, ◌^◌, ◌<◌, Bool, true, false, cond, eqb, List, [], ◌∷◌, ◌++◌, refl, sym, ap, ◌∙◌, arith, append_assoc}
+use Rattle.std.proofs.Common.{◌≡◌, ◌≢◌, ℕ, zero, suc, ◌+◌, ◌-◌, ◌*◌, ◌/◌, ◌%◌, ◌^◌, ◌<◌, Bool}
+use Rattle.std.proofs.Common.{true, false, cond, eqb, List, [], ◌∷◌, ◌++◌, refl, sym, ap, ◌∙◌}
+use Rattle.std.proofs.Common.{arith, append_assoc}
 use Rattle.std.proofs.lemmas.Nat.{div-add-mod', mod_below, div_below}
 use Rattle.std.proofs.lemmas.Bool.{eqb-true, ne_eqb}
 use Rattle.std.proofs.lemmas.List.{append-nil}
@@ -8,10 +10,12 @@ use Rattle.bl_num.specs.Texts.{padded}
 use Rattle.bl_num.proofs.Powers.{ten_pow-positive}
 
 pub small-div : (r k : ℕ) → r < 10 ^ k → r / 10 ^ k ≡ 0
-small-div r k h = let l : r / 10 ^ k < 1 = div_below r (10 ^ k) 1 (ten_pow-positive k) (omega arith) in omega arith
+small-div r k h = let l : r / 10 ^ k < 1 =
+    div_below r (10 ^ k) 1 (ten_pow-positive k) (omega arith) in omega arith
 
 pub no_quotient : (r k : ℕ) → r / 10 ^ k ≡ 0 → r % 10 ^ k ≡ r
-no_quotient r k e = let m = ap (λ (x : ℕ). x * 10 ^ k) e in let d = div-add-mod' r (10 ^ k) in omega arith
+no_quotient r k e = let m = ap (λ (x : ℕ). x * 10 ^ k) e in let d =
+    div-add-mod' r (10 ^ k) in omega arith
 
 pub trimmed-padded_zero : (k : ℕ) → trimmed (padded k 0) ≡ []
 trimmed-padded_zero zero = refl
@@ -21,7 +25,8 @@ trimmed-padded_zero (suc k) =
 
 kept_nil : (d : ℕ) (ds : List ℕ) → kept_digit d ds ≡ [] → (d ≡ 48) × (ds ≡ [])
 kept_nil d [] e = by (eqb d 48) refl e where
-  by : (t : Bool) → eqb d 48 ≡ t → cond {A = List ℕ} t [] (d ∷ []) ≡ [] → (d ≡ 48) × (◌≡◌ {A = List ℕ} [] [])
+  by : (t : Bool) → eqb d 48 ≡ t → cond {A = List ℕ} t [] (d ∷ []) ≡ [] → (d ≡ 48)
+      × (◌≡◌ {A = List ℕ} [] [])
   by true h q = (eqb-true d 48 h, refl)
   by false h q = absurd cc
 kept_nil d (x ∷ ds) e = absurd cc
@@ -38,7 +43,8 @@ kept-filled d [] h = ap (λ (t : Bool). cond t [] (d ∷ [])) (ne_eqb d 48 (h re
 kept-filled d (x ∷ ds) h = refl
 
 -- one digit of a fraction that is not zero
-pub trimmed-step : (left r : ℕ) → r < 10 ^ left → 0 < r → trimmed (padded left r) ≡ (48 + r / 10 ^ (left - 1)) ∷ trimmed (padded (left - 1) (r % 10 ^ (left - 1)))
+pub trimmed-step : (left r : ℕ) → r < 10 ^ left → 0 < r → trimmed (padded left r)
+    ≡ (48 + r / 10 ^ (left - 1)) ∷ trimmed (padded (left - 1) (r % 10 ^ (left - 1)))
 trimmed-step zero r h l = absurd (omega arith)
 trimmed-step (suc k) r h l =
     let e : suc k - 1 ≡ k = omega arith in
@@ -47,13 +53,17 @@ trimmed-step (suc k) r h l =
     trimmed-padded k (r % 10 ^ k) (mod_below r (10 ^ k) (ten_pow-positive k)) (omega (arith, q)) n))
 
 -- and where it is put behind what was written
-pub step-written : (items new whole : List ℕ) (left r unit : ℕ) → r < 10 ^ left → 0 < r → unit ≡ 10 ^ (left - 1) → new ≡ items ++ (48 + r / unit) ∷ [] →
+pub step-written : (items new whole : List ℕ) (left r unit : ℕ) → r < 10 ^ left → 0 < r → unit
+    ≡ 10 ^ (left - 1) → new ≡ items ++ (48 + r / unit) ∷ [] →
     items ++ trimmed (padded left r) ≡ whole → new ++ trimmed (padded (left - 1) (r % unit)) ≡ whole
 step-written items new whole left r unit h l u n w =
     let rest = trimmed (padded (left - 1) (r % 10 ^ (left - 1))) in
-    rw (n, u) (append_assoc items ((48 + r / 10 ^ (left - 1)) ∷ []) rest ∙ ap (λ (xs : List ℕ). items ++ xs) (sym (trimmed-step left r h l)) ∙ w)
+    rw (n, u) (append_assoc items ((48 + r / 10 ^ (left - 1)) ∷ []) rest
+    ∙ ap (λ (xs : List ℕ). items ++ xs) (sym (trimmed-step left r h l)) ∙ w)
 
 -- nothing is left to write
-pub end-written : (items whole : List ℕ) (left r : ℕ) → r ≡ 0 → items ++ trimmed (padded left r) ≡ whole → items ≡ whole
+pub end-written : (items whole : List ℕ) (left r : ℕ) → r ≡ 0 → items ++ trimmed (padded left r)
+    ≡ whole → items ≡ whole
 end-written items whole left r z w =
-    sym (append-nil items) ∙ ap (λ (xs : List ℕ). items ++ xs) (sym (trimmed-padded_zero left)) ∙ ap (λ (n : ℕ). items ++ trimmed (padded left n)) (sym z) ∙ w
+    sym (append-nil items) ∙ ap (λ (xs : List ℕ). items ++ xs) (sym (trimmed-padded_zero left))
+    ∙ ap (λ (n : ℕ). items ++ trimmed (padded left n)) (sym z) ∙ w

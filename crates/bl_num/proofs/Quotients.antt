@@ -1,5 +1,6 @@
 -- The quotient rounded down and up: each is the number that the order singles out.
-use Rattle.std.proofs.Common.{◌≡◌, ◌<◌, ℤ, pos, negsuc, ◌+ℤ◌, ◌*ℤ◌, neg_ℤ, ◌≤ℤ◌, ◌<ℤ◌, arith, FitsSigned}
+use Rattle.std.proofs.Common.{◌≡◌, ◌<◌, ℤ, pos, negsuc, ◌+ℤ◌, ◌*ℤ◌, neg_ℤ, ◌≤ℤ◌, ◌<ℤ◌, arith}
+use Rattle.std.proofs.Common.{FitsSigned}
 use Rattle.std.proofs.lemmas.Int.{ints, by_lt_z}
 use Rattle.std.proofs.Math.Nat.{mod-lt, div-le_self}
 use Rattle.std.specs.Int.{int_rem_euclid}
@@ -10,12 +11,15 @@ use mir.Syntax.{Width}
 
 pub floor-rem : (a b : ℤ) → pos 1 ≤ℤ b → floor_of a b *ℤ b +ℤ int_rem_euclid a b ≡ a
 floor-rem (pos a) (pos b) h = omega (arith, ints)
-floor-rem (negsuc a) (pos b) h = let p : 0 < b = omega (arith, ints) in let k = mod-lt a p in omega (arith, ints)
+floor-rem (negsuc a) (pos b) h = let p : 0 < b = omega (arith, ints) in let k =
+    mod-lt a p in omega (arith, ints)
 floor-rem a (negsuc b) h = absurd (omega (arith, ints))
 
 pub rem_range : (a b : ℤ) → pos 1 ≤ℤ b → (pos 0 ≤ℤ int_rem_euclid a b) × (int_rem_euclid a b <ℤ b)
-rem_range (pos a) (pos b) h = let p : 0 < b = omega (arith, ints) in let k = mod-lt a p in (omega (arith, ints), omega (arith, ints))
-rem_range (negsuc a) (pos b) h = let p : 0 < b = omega (arith, ints) in let k = mod-lt a p in (omega (arith, ints), omega (arith, ints))
+rem_range (pos a) (pos b) h = let p : 0 < b = omega (arith, ints) in let k =
+    mod-lt a p in (omega (arith, ints), omega (arith, ints))
+rem_range (negsuc a) (pos b) h = let p : 0 < b = omega (arith, ints) in let k =
+    mod-lt a p in (omega (arith, ints), omega (arith, ints))
 rem_range a (negsuc b) h = absurd (omega (arith, ints))
 
 pub floor-times : (a b : ℤ) → pos 1 ≤ℤ b → (floor_of a b *ℤ b) ≤ℤ a
@@ -63,7 +67,8 @@ ceil-whole a b h r =
     let u = ceil_le (floor_of a b) a b h (omega (arith, ints)) in
     let t = le-ceil_times a b h in
     let c = by_lt_z (ceil_of a b) (floor_of a b) (λ l.
-    let m = *ℤ-le b (ceil_of a b +ℤ pos 1) (floor_of a b) (omega (arith, ints)) (omega (arith, ints)) in
+    let m = *ℤ-le b (ceil_of a b +ℤ pos 1) (floor_of a b) (omega (arith, ints))
+    (omega (arith, ints)) in
     let e1 = *ℤ_comm b (ceil_of a b +ℤ pos 1) in
     let e2 = *ℤ_comm b (floor_of a b) in
     let e3 = +ℤ-*ℤ (ceil_of a b) (pos 1) b in
@@ -71,7 +76,8 @@ ceil-whole a b h r =
     absurd (omega (arith, ints))) (λ l. l) in
     omega (arith, ints)
 
-pub ceil-more : (a b : ℤ) → pos 1 ≤ℤ b → ¬ (int_rem_euclid a b ≡ pos 0) → floor_of a b +ℤ pos 1 ≡ ceil_of a b
+pub ceil-more : (a b : ℤ) → pos 1 ≤ℤ b → ¬ (int_rem_euclid a b ≡ pos 0) → floor_of a b +ℤ pos 1
+    ≡ ceil_of a b
 ceil-more a b h r =
     let e = floor-rem a b h in
     let g = rem_range a b h in
@@ -83,20 +89,28 @@ ceil-more a b h r =
 
 -- b times a, for b of at least 1, is no closer to 0 than a
 pub times_up : (a b : ℤ) → pos 1 ≤ℤ b → pos 0 ≤ℤ a → a ≤ℤ (a *ℤ b)
-times_up a b h k = let m = *ℤ-le a (pos 1) b k h in let e = *ℤ_comm a (pos 1) in let f = *ℤ_pos1 a in omega (arith, ints)
+times_up a b h k = let m = *ℤ-le a (pos 1) b k h in let e = *ℤ_comm a (pos 1) in let f =
+    *ℤ_pos1 a in omega (arith, ints)
 
 pub times_down : (a b : ℤ) → pos 1 ≤ℤ b → a ≤ℤ pos 0 → (a *ℤ b) ≤ℤ a
-times_down a b h k = let m = *ℤ-le_turned a (pos 1) b k h in let e = *ℤ_comm a (pos 1) in let f = *ℤ_pos1 a in omega (arith, ints)
+times_down a b h k = let m = *ℤ-le_turned a (pos 1) b k h in let e = *ℤ_comm a (pos 1) in let f =
+    *ℤ_pos1 a in omega (arith, ints)
 
 pub ceil_fits : (w : Width) (a b : ℤ) → pos 1 ≤ℤ b → FitsSigned w a → FitsSigned w (ceil_of a b)
 ceil_fits w a b h f = by_lt_z a (pos 0)
     (λ l. let u = ceil_le (pos 0) a b h (let z = zero-*ℤ b in omega (arith, ints)) in
-    by_lt_z (ceil_of a b) (pos 0) (λ m. let t = le-ceil_times a b h in let d = times_down (ceil_of a b) b h (omega (arith, ints)) in omega (arith, ints)) (λ m. omega (arith, ints)))
+    by_lt_z (ceil_of a b) (pos 0) (λ m. let t = le-ceil_times a b h in let d =
+    times_down (ceil_of a b) b h (omega (arith, ints)) in omega (arith, ints))
+    (λ m. omega (arith, ints)))
     (λ l. let u = ceil_le a a b h (times_up a b h l) in
-    by_lt_z (ceil_of a b) (pos 0) (λ m. let t = le-ceil_times a b h in let d = times_down (ceil_of a b) b h (omega (arith, ints)) in omega (arith, ints)) (λ m. omega (arith, ints)))
+    by_lt_z (ceil_of a b) (pos 0) (λ m. let t = le-ceil_times a b h in let d =
+    times_down (ceil_of a b) b h (omega (arith, ints)) in omega (arith, ints))
+    (λ m. omega (arith, ints)))
 
 -- of a number that is not negative, the quotient rounded down lies between 0 and it
-pub floor_range : (a b : ℤ) → pos 1 ≤ℤ b → pos 0 ≤ℤ a → (pos 0 ≤ℤ floor_of a b) × (floor_of a b ≤ℤ a)
-floor_range (pos a) (pos b) h k = let d = div-le_self a b in (omega (arith, ints), omega (arith, ints, d))
+pub floor_range : (a b : ℤ) → pos 1 ≤ℤ b → pos 0 ≤ℤ a → (pos 0 ≤ℤ floor_of a b)
+    × (floor_of a b ≤ℤ a)
+floor_range (pos a) (pos b) h k = let d =
+    div-le_self a b in (omega (arith, ints), omega (arith, ints, d))
 floor_range (negsuc a) b h k = absurd (omega (arith, ints))
 floor_range a (negsuc b) h k = absurd (omega (arith, ints))

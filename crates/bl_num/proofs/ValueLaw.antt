@@ -1,5 +1,8 @@
 -- The value of a number that is spelled.
-use Rattle.std.proofs.Common.{◌≡◌, ◌≢◌, ◌⊎◌, ℕ, zero, suc, ◌+◌, ◌-◌, ◌*◌, ◌%◌, ◌^◌, ◌<◌, ◌≤◌, Bool, true, false, cond, eqb, ◌&&◌, nat_le, nat_lt, nat_abs, ℤ, pos, negsuc, ◌+ℤ◌, ◌-ℤ◌, ◌*ℤ◌, List, [], ◌∷◌, ◌++◌, length, Result, Ok, Err, inl, inr, refl, sym, ap, subst, ◌∙◌, arith, ⊎_elim}
+use Rattle.std.proofs.Common.{◌≡◌, ◌≢◌, ◌⊎◌, ℕ, zero, suc, ◌+◌, ◌-◌, ◌*◌, ◌%◌, ◌^◌, ◌<◌, ◌≤◌}
+use Rattle.std.proofs.Common.{Bool, true, false, cond, eqb, ◌&&◌, nat_le, nat_lt, nat_abs, ℤ, pos}
+use Rattle.std.proofs.Common.{negsuc, ◌+ℤ◌, ◌-ℤ◌, ◌*ℤ◌, List, [], ◌∷◌, ◌++◌, length, Result, Ok}
+use Rattle.std.proofs.Common.{Err, inl, inr, refl, sym, ap, subst, ◌∙◌, arith, ⊎_elim}
 use Rattle.std.proofs.Math.Nat.{mul-le-mul, le_of_mul-le-mul_right}
 use Rattle.std.proofs.lemmas.Nat.{pow-add}
 use Rattle.std.proofs.lemmas.Int.{ints, unsigned_abs-mul}
@@ -9,7 +12,8 @@ use Rattle.std.proofs.lemmas.List.Elements.{All-head, All-tail}
 use Rattle.bl_num.specs.declared.Decimal.{Decimal}
 use Rattle.bl_num.specs.declared.NumberFault.{NumberFault}
 use Rattle.bl_num.specs.declared.NumberFault.TheVariants.{TooWide}
-use Rattle.bl_num.specs.Decimals.{Spelled, AreDigits, is_digit, negated_if, whole_number, kept_digit, trimmed, decimal, widest, settled, meant, value_of}
+use Rattle.bl_num.specs.Decimals.{Spelled, AreDigits, is_digit, negated_if, whole_number}
+use Rattle.bl_num.specs.Decimals.{kept_digit, trimmed, decimal, widest, settled, meant, value_of}
 use Rattle.bl_num.specs.Spellings.{raised, lowered, IsCanonical, IsWithinLimits, ReadsValue}
 use Rattle.bl_num.proofs.Digits.{whole_from, whole_trimmed}
 use Rattle.bl_num.proofs.Ring.{neg-*ℤ}
@@ -22,21 +26,25 @@ last_digit : (m d : ℕ) → 48 < d → d ≤ 57 → (10 * m + (d - 48)) % 10 �
 last_digit m d h k e = omega arith
 
 -- digits without their trailing zeros are no multiple of ten
-trimmed_end : (m d : ℕ) (ds kept : List ℕ) → is_digit d ≡ true → trimmed ds ≡ kept → kept_digit d kept ≢ [] →
+trimmed_end : (m d : ℕ) (ds kept : List ℕ) → is_digit d ≡ true → trimmed ds ≡ kept
+    → kept_digit d kept ≢ [] →
     ((n : ℕ) → kept ≢ [] → whole_from n kept % 10 ≢ 0) → whole_from m (kept_digit d kept) % 10 ≢ 0
 trimmed_end m d ds (e ∷ es) g h n ih = ih (10 * m + (d - 48)) (λ q. cc)
 trimmed_end m d ds [] g h n ih = by (eqb d 48) refl n where
-  by : (t : Bool) → eqb d 48 ≡ t → cond t [] (d ∷ []) ≢ [] → whole_from m (cond t [] (d ∷ [])) % 10 ≢ 0
+  by : (t : Bool) → eqb d 48 ≡ t → cond t [] (d ∷ []) ≢ []
+      → whole_from m (cond t [] (d ∷ [])) % 10 ≢ 0
   by true e n = absurd (n refl)
   by false e n =
       let b = digit-bounds d g in
       let other : d ≢ 48 = eqb-false d 48 e in
       last_digit m d (omega (arith, b.0)) b.1
 
-pub trimmed-last : (m : ℕ) (ds : List ℕ) → AreDigits ds → trimmed ds ≢ [] → whole_from m (trimmed ds) % 10 ≢ 0
+pub trimmed-last : (m : ℕ) (ds : List ℕ) → AreDigits ds → trimmed ds ≢ []
+    → whole_from m (trimmed ds) % 10 ≢ 0
 trimmed-last m [] h n = absurd (n refl)
 trimmed-last m (d ∷ ds) h n =
-    trimmed_end m d ds (trimmed ds) (All-head (λ x. is_digit x ≡ true) d ds h) refl n (λ k q. trimmed-last k ds (All-tail (λ x. is_digit x ≡ true) d ds h) q)
+    trimmed_end m d ds (trimmed ds) (All-head (λ x. is_digit x ≡ true) d ds h) refl n
+    (λ k q. trimmed-last k ds (All-tail (λ x. is_digit x ≡ true) d ds h) q)
 
 -- ---- powers
 
@@ -56,16 +64,19 @@ times_ten-mod m j =
     rw e (omega arith)
 
 at_least : (n a b : ℕ) → n * 10 ^ a ≤ n * 10 ^ (a + b)
-at_least n a b = let p : 1 ≤ 10 ^ b = ten_pow-positive b in let l : n * 10 ^ a ≤ n * 10 ^ a = omega arith in let m = mul-le-mul l p in rw (← times_pow n a b) (omega arith)
+at_least n a b = let p : 1 ≤ 10 ^ b = ten_pow-positive b in let l : n * 10 ^ a ≤ n * 10 ^ a =
+    omega arith in let m = mul-le-mul l p in rw (← times_pow n a b) (omega arith)
 
 raised-lowered : (e : ℤ) → e ≡ pos (raised e) -ℤ pos (lowered e)
 raised-lowered (pos n) = omega (arith, ints)
 raised-lowered (negsuc n) = omega (arith, ints)
 
-power-whole : (e : ℤ) (f k a : ℕ) → (e -ℤ pos f) +ℤ pos k ≡ pos a → (f + lowered e) + a ≡ k + raised e
+power-whole : (e : ℤ) (f k a : ℕ) → (e -ℤ pos f) +ℤ pos k ≡ pos a → (f + lowered e) + a ≡ k
+    + raised e
 power-whole e f k a h = let q = raised-lowered e in omega (arith, ints)
 
-power-places : (e : ℤ) (f k a : ℕ) → (e -ℤ pos f) +ℤ pos k ≡ negsuc a → f + lowered e ≡ k + raised e + suc a
+power-places : (e : ℤ) (f k a : ℕ) → (e -ℤ pos f) +ℤ pos k ≡ negsuc a → f + lowered e ≡ k
+    + raised e + suc a
 power-places e f k a h = let q = raised-lowered e in omega (arith, ints)
 
 -- ---- what `settled` gives
@@ -92,12 +103,15 @@ Law minus n k f e (Ok d) = Found minus n k f e d
 Law minus n k f e (Err fault) = Missed n k f e fault
 
 module _ (minus : Bool) (n k f : ℕ) (e : ℤ) (last : n % 10 ≢ 0) where
-  whole_by : (a : ℕ) (t : Bool) → (f + lowered e) + a ≡ k + raised e → nat_le (n * 10 ^ a) widest ≡ t → Law minus n k f e (cond t (Ok (decimal minus (n * 10 ^ a) 0)) (Err TooWide))
+  whole_by : (a : ℕ) (t : Bool) → (f + lowered e) + a ≡ k + raised e → nat_le (n * 10 ^ a) widest
+      ≡ t → Law minus n k f e (cond t (Ok (decimal minus (n * 10 ^ a) 0)) (Err TooWide))
   whole_by a true h t = record {
     m = n * 10 ^ a;
     p = 0;
     is = refl;
-    same = times_pow n a (f + lowered e) ∙ ap (λ (x : ℕ). n * 10 ^ x) (let q : a + (f + lowered e) ≡ k + (0 + raised e) = omega arith in q) ∙ sym (times_pow n k (0 + raised e));
+    same = times_pow n a (f + lowered e) ∙ ap (λ (x : ℕ). n * 10 ^ x)
+        (let q : a + (f + lowered e) ≡ k + (0 + raised e) = omega arith in q)
+        ∙ sym (times_pow n k (0 + raised e));
     small = grind (arith, nat_tests);
     few = omega arith;
     canonical = inl refl;
@@ -107,7 +121,8 @@ module _ (minus : Bool) (n k f : ℕ) (e : ℤ) (last : n % 10 ≢ 0) where
     none = λ m p s w q.
         let x : k + (p + raised e) ≡ (a + p) + (f + lowered e) = omega arith in
         let c : m * 10 ^ (f + lowered e) ≡ n * 10 ^ (a + p) * 10 ^ (f + lowered e) =
-        q ∙ times_pow n k (p + raised e) ∙ ap (λ (y : ℕ). n * 10 ^ y) x ∙ sym (times_pow n (a + p) (f + lowered e)) in
+        q ∙ times_pow n k (p + raised e) ∙ ap (λ (y : ℕ). n * 10 ^ y) x
+        ∙ sym (times_pow n (a + p) (f + lowered e)) in
         let g = cancel m (n * 10 ^ (a + p)) (f + lowered e) c in
         let l = at_least n a p in
         let u : widest < n * 10 ^ a = grind (arith, nat_tests) in
@@ -119,7 +134,8 @@ module _ (minus : Bool) (n k f : ℕ) (e : ℤ) (last : n % 10 ≢ 0) where
   fewer a m p h q l =
       let x : f + lowered e ≡ (a - p + 1) + (k + (p + raised e)) = omega arith in
       let c : m * 10 ^ (a - p + 1) * 10 ^ (k + (p + raised e)) ≡ n * 10 ^ (k + (p + raised e)) =
-      times_pow m (a - p + 1) (k + (p + raised e)) ∙ ap (λ (y : ℕ). m * 10 ^ y) (sym x) ∙ q ∙ times_pow n k (p + raised e) in
+      times_pow m (a - p + 1) (k + (p + raised e)) ∙ ap (λ (y : ℕ). m * 10 ^ y) (sym x) ∙ q
+      ∙ times_pow n k (p + raised e) in
       let g = cancel (m * 10 ^ (a - p + 1)) n (k + (p + raised e)) c in
       last (ap (λ (y : ℕ). y % 10) (sym g) ∙ times_ten-mod m (a - p))
 
@@ -127,27 +143,36 @@ module _ (minus : Bool) (n k f : ℕ) (e : ℤ) (last : n % 10 ≢ 0) where
   tests_pass a l h = grind (arith, nat_tests)
 
   -- and with so many places or more it is no smaller
-  more : (a m p : ℕ) → f + lowered e ≡ k + raised e + suc a → (nat_le n widest && nat_lt a 27) ≡ false → m ≤ 10 ^ 27 → p ≤ 27 → SameValue m p n k f e → suc a ≤ p → ⊥
+  more : (a m p : ℕ) → f + lowered e ≡ k + raised e + suc a → (nat_le n widest && nat_lt a 27)
+      ≡ false → m ≤ 10 ^ 27 → p ≤ 27 → SameValue m p n k f e → suc a ≤ p → ⊥
   more a m p h t s w q l =
       let x : k + (p + raised e) ≡ (p - suc a) + (f + lowered e) = omega arith in
       let c : m * 10 ^ (f + lowered e) ≡ n * 10 ^ (p - suc a) * 10 ^ (f + lowered e) =
-      q ∙ times_pow n k (p + raised e) ∙ ap (λ (y : ℕ). n * 10 ^ y) x ∙ sym (times_pow n (p - suc a) (f + lowered e)) in
+      q ∙ times_pow n k (p + raised e) ∙ ap (λ (y : ℕ). n * 10 ^ y) x
+      ∙ sym (times_pow n (p - suc a) (f + lowered e)) in
       let g = cancel m (n * 10 ^ (p - suc a)) (f + lowered e) c in
       let b = no_less n (p - suc a) in
       let r = tests_pass a (omega arith) (omega arith) in
       absurd (let z : true ≡ false = sym r ∙ t in cc)
 
-  places_by : (a : ℕ) (t : Bool) → f + lowered e ≡ k + raised e + suc a → (nat_le n widest && nat_lt a 27) ≡ t → Law minus n k f e (cond t (Ok (decimal minus n (suc a))) (Err TooWide))
+  places_by : (a : ℕ) (t : Bool) → f + lowered e ≡ k + raised e + suc a
+      → (nat_le n widest && nat_lt a 27) ≡ t
+      → Law minus n k f e (cond t (Ok (decimal minus n (suc a))) (Err TooWide))
   places_by a true h t = record {
     m = n;
     p = suc a;
     is = refl;
-    same = ap (λ (x : ℕ). n * 10 ^ x) (let q : f + lowered e ≡ k + (suc a + raised e) = omega arith in q) ∙ sym (times_pow n k (suc a + raised e));
+    same = ap (λ (x : ℕ). n * 10 ^ x) (let q : f + lowered e ≡ k + (suc a + raised e) =
+        omega arith in q) ∙ sym (times_pow n k (suc a + raised e));
     small = grind (arith, nat_tests);
     few = grind (arith, nat_tests);
     canonical = inr last;
   }
-  places_by a false h t = record { is = refl; none = λ m p s w q. ⊎_elim (fewer a m p h q) (more a m p h t s w q) (cases_lt p (suc a)) }
+  places_by a false h t = record {
+    is = refl;
+    none =
+        λ m p s w q. ⊎_elim (fewer a m p h q) (more a m p h t s w q) (cases_lt p (suc a));
+  }
 
   pub settled-law : Law minus n k f e (settled minus n ((e -ℤ pos f) +ℤ pos k))
   settled-law = by ((e -ℤ pos f) +ℤ pos k) refl where
@@ -171,51 +196,81 @@ zero-times true a b = omega (arith, ints)
 zero-times false a b = omega (arith, ints)
 
 abbrev pub ReadsNumber : Bool → List ℕ → ℕ → ℤ → Result Decimal NumberFault → Type 0
-ReadsNumber minus ds f e (Ok d) = (d.mantissa *ℤ pos (10 ^ (f + lowered e)) ≡ negated_if minus (whole_number ds) *ℤ pos (10 ^ (d.places + raised e))) × IsCanonical d × IsWithinLimits d
-ReadsNumber minus ds f e (Err fault) = (fault ≡ TooWide) × ((d : Decimal) → IsWithinLimits d → ¬ (d.mantissa *ℤ pos (10 ^ (f + lowered e)) ≡ negated_if minus (whole_number ds) *ℤ pos (10 ^ (d.places + raised e))))
+ReadsNumber minus ds f e (Ok d) = (d.mantissa *ℤ pos (10 ^ (f + lowered e))
+    ≡ negated_if minus (whole_number ds) *ℤ pos (10 ^ (d.places + raised e))) × IsCanonical d
+    × IsWithinLimits d
+ReadsNumber minus ds f e (Err fault) = (fault ≡ TooWide)
+    × ((d : Decimal) → IsWithinLimits d → ¬ (d.mantissa *ℤ pos (10 ^ (f + lowered e))
+    ≡ negated_if minus (whole_number ds) *ℤ pos (10 ^ (d.places + raised e))))
 
 module _ (minus : Bool) (ds : List ℕ) (f : ℕ) (e : ℤ) where
-  found : (n k : ℕ) (d : Decimal) → whole_number ds ≡ n * 10 ^ k → Found minus n k f e d → ReadsNumber minus ds f e (Ok d)
+  found : (n k : ℕ) (d : Decimal) → whole_number ds ≡ n * 10 ^ k → Found minus n k f e d
+      → ReadsNumber minus ds f e (Ok d)
   found n k d w h =
       let z = signed-size minus h.m in
-      let v = signed-times minus h.m (10 ^ (f + lowered e)) ∙ ap (negated_if minus) (h.same ∙ ap (λ (x : ℕ). x * 10 ^ (h.p + raised e)) (sym w)) ∙ sym (signed-times minus (whole_number ds) (10 ^ (h.p + raised e))) in
-      subst (λ (x : Decimal). ReadsNumber minus ds f e (Ok x)) (sym h.is) (v, ⊎_elim inl (λ q. inr (λ r. q (ap (λ (x : ℕ). x % 10) (sym z) ∙ r))) h.canonical, (omega (arith, z, h.small), h.few))
+      let v = signed-times minus h.m (10 ^ (f + lowered e))
+      ∙ ap (negated_if minus) (h.same ∙ ap (λ (x : ℕ). x * 10 ^ (h.p + raised e)) (sym w))
+      ∙ sym (signed-times minus (whole_number ds) (10 ^ (h.p + raised e))) in
+      subst (λ (x : Decimal). ReadsNumber minus ds f e (Ok x)) (sym h.is) (
+        v,
+        ⊎_elim inl (λ q. inr (λ r. q (ap (λ (x : ℕ). x % 10) (sym z) ∙ r))) h.canonical,
+        (omega (arith, z, h.small), h.few),
+      )
 
-  missed : (n k : ℕ) (fault : NumberFault) → whole_number ds ≡ n * 10 ^ k → Missed n k f e fault → ReadsNumber minus ds f e (Err fault)
+  missed : (n k : ℕ) (fault : NumberFault) → whole_number ds ≡ n * 10 ^ k → Missed n k f e fault
+      → ReadsNumber minus ds f e (Err fault)
   missed n k fault w h = (
     h.is,
     λ d l q.
-        let a = sym (unsigned_abs-mul d.mantissa (pos (10 ^ (f + lowered e)))) ∙ ap nat_abs q ∙ unsigned_abs-mul (negated_if minus (whole_number ds)) (pos (10 ^ (d.places + raised e)))
-        ∙ ap (λ (x : ℕ). x * 10 ^ (d.places + raised e)) (signed-size minus (whole_number ds) ∙ w) in
+        let a = sym (unsigned_abs-mul d.mantissa (pos (10 ^ (f + lowered e)))) ∙ ap nat_abs q
+        ∙ unsigned_abs-mul (negated_if minus (whole_number ds))
+        (pos (10 ^ (d.places + raised e)))
+        ∙ ap (λ (x : ℕ). x * 10 ^ (d.places + raised e)) (signed-size minus (whole_number ds) ∙ w)
+        in
         h.none (nat_abs d.mantissa) d.places l.0 l.1 a,
   )
 
-  either : (n k : ℕ) (r : Result Decimal NumberFault) → whole_number ds ≡ n * 10 ^ k → Law minus n k f e r → ReadsNumber minus ds f e r
+  either : (n k : ℕ) (r : Result Decimal NumberFault) → whole_number ds ≡ n * 10 ^ k
+      → Law minus n k f e r → ReadsNumber minus ds f e r
   either n k (Ok d) w h = found n k d w h
   either n k (Err fault) w h = missed n k fault w h
 
-  not_zero : (k : ℕ) → whole_number ds ≡ whole_number (trimmed ds) * 10 ^ k → ¬ (whole_number ds ≡ 0) → trimmed ds ≢ []
+  not_zero : (k : ℕ) → whole_number ds ≡ whole_number (trimmed ds) * 10 ^ k
+      → ¬ (whole_number ds ≡ 0) → trimmed ds ≢ []
   not_zero k w n q = n (w ∙ ap (λ (xs : List ℕ). whole_number xs * 10 ^ k) q ∙ omega arith)
 
   pub meant-law : AreDigits ds → ReadsNumber minus ds f e (meant minus ds f e)
   meant-law h = by (eqb (whole_number ds) 0) refl where
     by : (t : Bool) → eqb (whole_number ds) 0 ≡ t →
-        ReadsNumber minus ds f e (cond t (Ok (decimal false 0 0)) (settled minus (whole_number (trimmed ds)) ((e -ℤ pos f) +ℤ pos (length ds - length (trimmed ds)))))
+        ReadsNumber minus ds f e (cond t (Ok (decimal false 0 0))
+        (settled minus (whole_number (trimmed ds))
+        ((e -ℤ pos f) +ℤ pos (length ds - length (trimmed ds)))))
     by true q =
-        let w = eqb-true (whole_number ds) 0 q in
-        (zero-times minus (10 ^ (f + lowered e)) (10 ^ (0 + raised e)) ∙ ap (λ (x : ℕ). negated_if minus x *ℤ pos (10 ^ (0 + raised e))) (sym w), inl refl, (omega arith, omega arith))
+        let w = eqb-true (whole_number ds) 0 q in (
+          zero-times minus (10 ^ (f + lowered e)) (10 ^ (0 + raised e))
+              ∙ ap (λ (x : ℕ). negated_if minus x *ℤ pos (10 ^ (0 + raised e))) (sym w),
+          inl refl,
+          (omega arith, omega arith),
+        )
     by false q =
         let k = length ds - length (trimmed ds) in
         let w : whole_number ds ≡ whole_number (trimmed ds) * 10 ^ k = whole_trimmed 0 ds in
         let l = trimmed-last 0 ds h (not_zero k w (eqb-false (whole_number ds) 0 q)) in
-        either (whole_number (trimmed ds)) k (settled minus (whole_number (trimmed ds)) ((e -ℤ pos f) +ℤ pos k)) w (settled-law minus (whole_number (trimmed ds)) k f e l)
+        either (whole_number (trimmed ds)) k (settled minus (whole_number (trimmed ds))
+        ((e -ℤ pos f) +ℤ pos k)) w (settled-law minus (whole_number (trimmed ds)) k f e l)
 
 pub value_of-law : (s : Spelled) → AreDigits (s.whole ++ s.fraction) → ReadsValue s (value_of s)
 value_of-law s h = by (nat_le (nat_abs s.exponent) 27) refl where
-  read : (r : Result Decimal NumberFault) → nat_abs s.exponent ≤ 27 → ReadsNumber s.minus (s.whole ++ s.fraction) (length s.fraction) s.exponent r → ReadsValue s r
+  read : (r : Result Decimal NumberFault) → nat_abs s.exponent ≤ 27
+      → ReadsNumber s.minus (s.whole ++ s.fraction) (length s.fraction) s.exponent r
+      → ReadsValue s r
   read (Ok d) l h = (l, h.0, h.1, h.2)
   read (Err fault) l h = (h.0, inr h.1)
 
-  by : (t : Bool) → nat_le (nat_abs s.exponent) 27 ≡ t → ReadsValue s (cond t (meant s.minus (s.whole ++ s.fraction) (length s.fraction) s.exponent) (Err TooWide))
-  by true q = read (meant s.minus (s.whole ++ s.fraction) (length s.fraction) s.exponent) (grind (arith, nat_tests)) (meant-law s.minus (s.whole ++ s.fraction) (length s.fraction) s.exponent h)
+  by : (t : Bool) → nat_le (nat_abs s.exponent) 27 ≡ t
+      → ReadsValue s
+      (cond t (meant s.minus (s.whole ++ s.fraction) (length s.fraction) s.exponent) (Err TooWide))
+  by true q = read (meant s.minus (s.whole ++ s.fraction) (length s.fraction) s.exponent)
+      (grind (arith, nat_tests))
+      (meant-law s.minus (s.whole ++ s.fraction) (length s.fraction) s.exponent h)
   by false q = (refl, inl (grind (arith, nat_tests)))

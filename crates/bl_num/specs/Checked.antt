@@ -1,5 +1,7 @@
--- Arithmetic in `i128`: each operation gives its exact number, or None where an `i128` does not hold that number or an operand is None.
-use Rattle.std.specs.Prelude.{List, length, pos, ℕ, zero, suc, ◌^◌, ◌≤◌, ℤ, ◌+ℤ◌, ◌*ℤ◌, Option, Some, None, FitsSigned, nat_lt, if◌then◌else◌}
+-- Arithmetic in `i128`: each operation gives its exact number, or None where an `i128` does not
+-- hold that number or an operand is None.
+use Rattle.std.specs.Prelude.{List, length, pos, ℕ, zero, suc, ◌^◌, ◌≤◌, ℤ, ◌+ℤ◌, ◌*ℤ◌, Option}
+use Rattle.std.specs.Prelude.{Some, None, FitsSigned, nat_lt, if◌then◌else◌}
 use Rattle.std.specs.Int.{w128}
 use Rattle.bl_num.specs.Exact.{sum_below, product_at}
 use lib.Signed.{mag}
@@ -18,7 +20,8 @@ checked_mul None b = None
 checked_mul (Some a) None = None
 checked_mul (Some a) (Some b) = i128_of (a *ℤ b)
 
--- start + f 0 + .. + f (n - 1), added from the left: None where a term is None or a partial sum leaves i128
+-- start + f 0 + .. + f (n - 1), added from the left: None where a term is None or a partial sum
+-- leaves i128
 unfoldable pub checked_sum : Option ℤ → ℕ → (ℕ → Option ℤ) → Option ℤ
 checked_sum start zero f = start
 checked_sum start (suc n) f = checked_add (checked_sum start n f) (f n)

@@ -1,5 +1,8 @@
 -- How a number is spelled, and the decimal that it means.
-use Rattle.std.specs.Prelude.{◌≡◌, All, ℕ, suc, ◌+◌, ◌-◌, ◌*◌, ◌^◌, Bool, true, false, not, ◌&&◌, ◌||◌, ◌==◌, nat_le, nat_lt, if◌then◌else◌, List, [], ◌∷◌, ◌++◌, length, fold, take_while, ℤ, pos, negsuc, ◌+ℤ◌, ◌-ℤ◌, ◌*ℤ◌, neg_ℤ, nat_abs, Option, Some, None, option_map, Result, Ok, Err}
+use Rattle.std.specs.Prelude.{◌≡◌, All, ℕ, suc, ◌+◌, ◌-◌, ◌*◌, ◌^◌, Bool, true, false, not, ◌&&◌}
+use Rattle.std.specs.Prelude.{◌||◌, ◌==◌, nat_le, nat_lt, if◌then◌else◌, List, [], ◌∷◌, ◌++◌}
+use Rattle.std.specs.Prelude.{length, fold, take_while, ℤ, pos, negsuc, ◌+ℤ◌, ◌-ℤ◌, ◌*ℤ◌, neg_ℤ}
+use Rattle.std.specs.Prelude.{nat_abs, Option, Some, None, option_map, Result, Ok, Err}
 use Rattle.bl_num.specs.declared.Decimal.{Decimal}
 use Rattle.bl_num.specs.declared.NumberFault.{NumberFault}
 use Rattle.bl_num.specs.declared.NumberFault.TheVariants.{Spelling, TooWide}
@@ -53,7 +56,8 @@ is_empty (b ∷ bs) = false
 
 -- digits and nothing else
 abbrev pub power_of : Bool → List ℕ → Option ℤ
-power_of minus ds = if not (is_empty ds) && is_empty (after_digits ds) then Some (negated_if minus (whole_number ds)) else None
+power_of minus ds = if not (is_empty ds) && is_empty (after_digits ds)
+    then Some (negated_if minus (whole_number ds)) else None
 
 -- nothing, or `e` or `E`, a sign or none, and digits
 abbrev pub exponent_of : List ℕ → Option ℤ
@@ -71,7 +75,13 @@ abbrev pub parts_of : Bool → List ℕ → Option Spelled
 parts_of minus text =
     let rest = after_digits text in
     if is_empty (digits_of text ++ fraction_of rest) then None
-    else option_map (λ e. record { minus = minus; whole = digits_of text; fraction = fraction_of rest; exponent = e }) (exponent_of (after_fraction rest))
+    else option_map (λ e. record {
+      minus = minus;
+      whole = digits_of text;
+      fraction =
+          fraction_of rest;
+      exponent = e;
+    }) (exponent_of (after_fraction rest))
 
 abbrev pub spelled_of : List ℕ → Option Spelled
 spelled_of text = parts_of (has_minus text) (after_sign text)
@@ -97,17 +107,21 @@ widest = 10 ^ 27
 
 -- a whole number without trailing zeros times a power of ten
 abbrev pub settled : Bool → ℕ → ℤ → Result Decimal NumberFault
-settled minus n (pos x) = if nat_le (n * 10 ^ x) widest then Ok (decimal minus (n * 10 ^ x) 0) else Err TooWide
-settled minus n (negsuc x) = if nat_le n widest && nat_lt x 27 then Ok (decimal minus n (suc x)) else Err TooWide
+settled minus n (pos x) = if nat_le (n * 10 ^ x) widest then Ok (decimal minus (n * 10 ^ x) 0)
+    else Err TooWide
+settled minus n (negsuc x) = if nat_le n widest && nat_lt x 27 then Ok (decimal minus n (suc x))
+    else Err TooWide
 
 -- the digits before the exponent, with so many of them behind the point
 abbrev pub meant : Bool → List ℕ → ℕ → ℤ → Result Decimal NumberFault
 meant minus digits behind e =
     if whole_number digits == 0 then Ok (decimal false 0 0)
-    else settled minus (whole_number (trimmed digits)) ((e -ℤ pos behind) +ℤ pos (length digits - length (trimmed digits)))
+    else settled minus (whole_number (trimmed digits))
+    ((e -ℤ pos behind) +ℤ pos (length digits - length (trimmed digits)))
 
 abbrev pub value_of : Spelled → Result Decimal NumberFault
-value_of s = if nat_le (nat_abs s.exponent) 27 then meant s.minus (s.whole ++ s.fraction) (length s.fraction) s.exponent else Err TooWide
+value_of s = if nat_le (nat_abs s.exponent) 27 then meant s.minus (s.whole ++ s.fraction)
+    (length s.fraction) s.exponent else Err TooWide
 
 abbrev pub value_or_fault : Option Spelled → Result Decimal NumberFault
 value_or_fault None = Err Spelling

@@ -9,7 +9,11 @@ ceiling = 10 ^ 28
 
 -- what is kept of digits: their number without its trailing zeros, and how many these zeros are
 abbrev pub kept_of : List ℕ → Digits
-kept_of ds = record { mantissa = min (whole_number (trimmed ds)) ceiling; zeros = length ds - length (trimmed ds) }
+kept_of ds = record {
+  mantissa = min (whole_number (trimmed ds)) ceiling;
+  zeros =
+      length ds - length (trimmed ds);
+}
 
 -- an exponent, which is kept as far as 28 from 0
 abbrev pub clipped : ℤ → ℤ

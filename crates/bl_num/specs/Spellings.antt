@@ -1,5 +1,7 @@
 -- The numbers' spelling as it is written, and what a decimal says.
-use Rattle.std.specs.Prelude.{◌≡◌, ◌≢◌, ◌⊎◌, ℕ, suc, ◌+◌, ◌%◌, ◌^◌, ◌<◌, ◌≤◌, Bool, true, false, List, [], ◌∷◌, ◌++◌, length, ℤ, pos, negsuc, ◌*ℤ◌, nat_abs, Result, Ok, Err}
+use Rattle.std.specs.Prelude.{◌≡◌, ◌≢◌, ◌⊎◌, ℕ, suc, ◌+◌, ◌%◌, ◌^◌, ◌<◌, ◌≤◌, Bool, true, false}
+use Rattle.std.specs.Prelude.{List, [], ◌∷◌, ◌++◌, length, ℤ, pos, negsuc, ◌*ℤ◌, nat_abs, Result}
+use Rattle.std.specs.Prelude.{Ok, Err}
 use Rattle.bl_num.specs.declared.Decimal.{Decimal}
 use Rattle.bl_num.specs.declared.NumberFault.{NumberFault}
 use Rattle.bl_num.specs.declared.NumberFault.TheVariants.{TooWide}
@@ -59,9 +61,11 @@ lowered (negsuc n) = suc n
 abbrev pub digits_number : Spelled → ℤ
 digits_number s = negated_if s.minus (whole_number (s.whole ++ s.fraction))
 
--- the decimal is the number that is spelled: `mantissa / 10 ^ places` is the digits' number over `10 ^` the count of digits behind the point, times ten to the exponent
+-- the decimal is the number that is spelled: `mantissa / 10 ^ places` is the digits' number over
+-- `10 ^` the count of digits behind the point, times ten to the exponent
 abbrev pub HasValue : Decimal → Spelled → Type 0
-HasValue d s = d.mantissa *ℤ pos (10 ^ (length s.fraction + lowered s.exponent)) ≡ digits_number s *ℤ pos (10 ^ (d.places + raised s.exponent))
+HasValue d s = d.mantissa *ℤ pos (10 ^ (length s.fraction + lowered s.exponent))
+    ≡ digits_number s *ℤ pos (10 ^ (d.places + raised s.exponent))
 
 -- no decimal with fewer places is the same number
 abbrev pub IsCanonical : Decimal → Type 0
@@ -70,7 +74,9 @@ IsCanonical d = (d.places ≡ 0) ⊎ (nat_abs d.mantissa % 10 ≢ 0)
 abbrev pub IsWithinLimits : Decimal → Type 0
 IsWithinLimits d = (nat_abs d.mantissa ≤ 10 ^ 27) × (d.places ≤ 27)
 
--- the canonical decimal with this value; or `TooWide`, where the exponent is beyond the limits or no decimal within them has the value
+-- the canonical decimal with this value; or `TooWide`, where the exponent is beyond the limits
+-- or no decimal within them has the value
 abbrev pub ReadsValue : Spelled → Result Decimal NumberFault → Type 0
 ReadsValue s (Ok d) = (nat_abs s.exponent ≤ 27) × HasValue d s × IsCanonical d × IsWithinLimits d
-ReadsValue s (Err fault) = (fault ≡ TooWide) × ((27 < nat_abs s.exponent) ⊎ ((d : Decimal) → IsWithinLimits d → ¬ (HasValue d s)))
+ReadsValue s (Err fault) = (fault ≡ TooWide)
+    × ((27 < nat_abs s.exponent) ⊎ ((d : Decimal) → IsWithinLimits d → ¬ (HasValue d s)))

@@ -1,5 +1,6 @@
 -- How a number is written.
-use Rattle.std.specs.Prelude.{ℕ, zero, suc, ◌+◌, ◌/◌, ◌%◌, ◌^◌, ◌==◌, if◌then◌else◌, List, [], ◌∷◌, ◌++◌, ℤ, pos, negsuc, nat_abs}
+use Rattle.std.specs.Prelude.{ℕ, zero, suc, ◌+◌, ◌/◌, ◌%◌, ◌^◌, ◌==◌, if◌then◌else◌, List, []}
+use Rattle.std.specs.Prelude.{◌∷◌, ◌++◌, ℤ, pos, negsuc, nat_abs}
 use Rattle.std.specs.Fmt.{decimal}
 use Rattle.bl_num.specs.Decimals.{trimmed}
 
@@ -18,4 +19,5 @@ minus_text (negsuc n) = 45 ∷ []
 
 -- z / 10 ^ places: the sign, the whole part, and the fraction where it is not zero
 unfoldable pub text_of : ℤ → ℕ → List ℕ
-text_of z places = minus_text z ++ decimal (nat_abs z / 10 ^ places) ++ fraction_text places (nat_abs z % 10 ^ places)
+text_of z places = minus_text z ++ decimal (nat_abs z / 10 ^ places)
+    ++ fraction_text places (nat_abs z % 10 ^ places)

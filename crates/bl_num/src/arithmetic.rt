@@ -1,6 +1,7 @@
 //! Whole numbers: quotients rounded down and up, and sums and products that tell where they leave
 //! `i128`.
-ghost use Rattle.std.specs.Prelude.{unsigned_abs, ◌≤◌, ◌^◌, ◌≡◌, pos, ◌≤ℤ◌, ◌+ℤ◌, ◌-ℤ◌, ◌*ℤ◌, length, SomeIff};
+ghost use Rattle.std.specs.Prelude.{unsigned_abs, ◌≤◌, ◌^◌, ◌≡◌, pos, ◌≤ℤ◌, ◌+ℤ◌, ◌-ℤ◌, ◌*ℤ◌};
+ghost use Rattle.std.specs.Prelude.{length, SomeIff};
 ghost use Rattle.bl_num.specs.Exact.{floor_of, ceil_of, sum_below, product_at};
 ghost use Rattle.bl_num.specs.Checked.{dot_of, i128_of, checked_add, checked_mul, PartialsFit};
 

@@ -1,5 +1,6 @@
 //! What reading, writing and rounding come to.
-ghost use Rattle.bl_num.specs.Laws.{CanonicalIsOne, ReadsCanonically, ReadsSpelled, RefusesOthers, UnitsKeepValue};
+ghost use Rattle.bl_num.specs.Laws.{CanonicalIsOne, ReadsCanonically, ReadsSpelled};
+ghost use Rattle.bl_num.specs.Laws.{RefusesOthers, UnitsKeepValue};
 ghost use Rattle.bl_num.specs.Laws.{CanonicalReadsBack, ReadsWithinLimits, WritesReadably};
 ghost use Rattle.bl_num.specs.Laws.{CeilingIsLeast, FloorIsGreatest};
 

@@ -1,4 +1,4 @@
-//! Exact whole numbers, and decimals as they are spelled.
+//! Base: exact whole numbers, and decimals as they are spelled.
 #![tactic(auto)]
 
 mod arithmetic;

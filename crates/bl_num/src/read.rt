@@ -1,8 +1,12 @@
 //! Numbers as they are spelled.
-ghost use Rattle.std.specs.Prelude.{IfOk, ◌≡◌, ◌+◌, ◌-◌, ◌*◌, ◌^◌, ◌<◌, ◌≤◌, ◌∷◌, ◌++◌, [], ℕ, List, length, min, option_map, pos, true, ◌+ℤ◌, ◌-ℤ◌, unsigned_abs};
+ghost use Rattle.std.specs.Prelude.{IfOk, ◌≡◌, ◌+◌, ◌-◌, ◌*◌, ◌^◌, ◌<◌, ◌≤◌, ◌∷◌, ◌++◌, [], ℕ};
+ghost use Rattle.std.specs.Prelude.{List, length, min, option_map, pos, true, ◌+ℤ◌, ◌-ℤ◌};
+ghost use Rattle.std.specs.Prelude.{unsigned_abs};
 ghost use Rattle.std.specs.List.{prefix_len};
-ghost use Rattle.bl_num.specs.Decimals.{AreDigits, after_digits, after_fraction, after_sign, decimal_of, digits_of};
-ghost use Rattle.bl_num.specs.Decimals.{exponent_of, fraction_of, has_minus, is_digit, meant, negated_if, power_of, settled, whole_number};
+ghost use Rattle.bl_num.specs.Decimals.{AreDigits, after_digits, after_fraction, after_sign};
+ghost use Rattle.bl_num.specs.Decimals.{decimal_of, digits_of};
+ghost use Rattle.bl_num.specs.Decimals.{exponent_of, fraction_of, has_minus, is_digit, meant};
+ghost use Rattle.bl_num.specs.Decimals.{negated_if, power_of, settled, whole_number};
 ghost use Rattle.bl_num.specs.Reading.{ceiling, clipped, kept_of};
 ghost use Rattle.bl_num.specs.Spellings.{IsCanonical, IsWithinLimits};
 
@@ -261,9 +265,9 @@ fn settle_digits(
 
 /// The decimal that a text spells: an optional sign, digits with at most one point and at least one
 /// digit, then optionally `e` or `E`, an optional sign and digits. `Spelling` is the fault of every
-/// other text. `TooWide` comes where the exponent is outside -27 to 27, where the mantissa is beyond
-/// 10^27 in size, or where there are more than 27 places. Takes no memory, and time linear in the
-/// text's length.
+/// other text. `TooWide` comes where the exponent is outside -27 to 27, where the mantissa is
+/// beyond 10^27 in size, or where there are more than 27 places. Takes no memory, and time
+/// linear in the text's length.
 pub fn read_decimal(text: &[u8]) -> Result<Decimal, NumberFault>
     ensures value { result ≡ decimal_of text.now }
     ensures canonical { IfOk result IsCanonical }

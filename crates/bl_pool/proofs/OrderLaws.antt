@@ -16,11 +16,13 @@ low_back a b h = grind (arith, ints, nat_tests, h)
 low_self : (a : Key) → low_before a a ≡ false
 low_self a = grind (arith, ints, nat_tests)
 
-pub trans : (o : Order) (a b c : Key) → before o b a ≡ false → before o c b ≡ false → before o c a ≡ false
+pub trans : (o : Order) (a b c : Key) → before o b a ≡ false → before o c b ≡ false → before o c a
+    ≡ false
 trans Best a b c h k = low_trans a b c h k
 trans Depth a b c h k = depth_trans a b c h k
   where
-    depth_trans : (a b c : Key) → before Depth b a ≡ false → before Depth c b ≡ false → before Depth c a ≡ false
+    depth_trans : (a b c : Key) → before Depth b a ≡ false → before Depth c b ≡ false
+        → before Depth c a ≡ false
     depth_trans a b c h k = grind (arith, ints, nat_tests, h, k, low_trans a b c)
 
 pub back : (o : Order) (a b : Key) → before o a b ≡ true → before o b a ≡ false

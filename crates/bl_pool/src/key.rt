@@ -14,10 +14,10 @@ pub enum Order {
 /// What an order sees of a node.
 #[derive(Clone, Copy, Debug, PartialEq, Eq)]
 pub struct Key {
-    /// The node's number.
-    pub id: u32,
     /// The node's low number, in units of 10^-scale.
     pub low: i128,
+    /// The node's number.
+    pub id: u32,
     /// How many splits lie above the node.
     pub depth: u32,
 }

@@ -1,5 +1,6 @@
 //! The pool: a binary heap of keys, and beside it the place of each.
-ghost use Rattle.std.specs.Prelude.{◌≡◌, ◌<◌, ◌≤◌, ◌+◌, ℕ, Some, None, length, IfSome, OnOk, is_some, ◌==◌, if◌then◌else◌};
+ghost use Rattle.std.specs.Prelude.{◌≡◌, ◌<◌, ◌≤◌, ◌+◌, ℕ, Some, None, length, IfSome, OnOk};
+ghost use Rattle.std.specs.Prelude.{is_some, ◌==◌, if◌then◌else◌};
 ghost use Rattle.bl_pool.specs.Views.{IsFirst, PoolView, key_in};
 
 use crate::heap::{put, take_out};
@@ -8,26 +9,33 @@ use std::alloc::{AllocError, Global};
 use std::marker::Model;
 
 /// The keys of nodes, of which the first in the order is at hand. Contracts see the order, the key
-/// of each node that is held, below which number the nodes' numbers lie, and how many more keys fit.
+/// of each node that is held, below which number the nodes' numbers lie, and how many more keys
+/// fit.
 #[derive(Drop)]
 pub struct Pool {
     order: Order,
     // A binary heap: no key comes before the one above it.
     keys: Vec<Key>,
-    // The place in the heap of each node that is held.
-    places: Vec<Option<usize>>,
+    // The place in the heap of each node that is held, plus 1; 0 for any other.
+    places: Vec<u32>,
 }
 
 impl Model for Pool {
-    ghost use Rattle.std.specs.Prelude.{◌-◌, length, vec_capacity};
+    ghost use Rattle.std.specs.Prelude.{◌-◌, ◌<◌, ◌^◌, length, vec_capacity};
     ghost use Rattle.bl_pool.specs.Views.{PoolView};
     ghost use Rattle.bl_pool.specs.Heaps.{Heap, Tied, key_of, table_of};
 
     ghost Value = { PoolView };
 
-    ghost view = { λ p. record { order = p.order; keys = table_of p.keys.items p.places.items; room = vec_capacity p.keys - length p.keys.items } };
+    ghost view = { λ p. record {
+      order = p.order;
+      keys =
+          table_of p.keys.items p.places.items;
+      room = vec_capacity p.keys - length p.keys.items;
+    } };
 
-    ghost invariant = { λ p. Tied p.keys.items p.places.items × Heap p.order (key_of p.keys.items) (length p.keys.items) };
+    ghost invariant = { λ p.
+        Tied p.keys.items p.places.items × Heap p.order (key_of p.keys.items) (length p.keys.items) × (length p.places.items < 2 ^ 32) };
 }
 
 impl Pool {
@@ -55,7 +63,7 @@ impl Pool {
     {
         self.keys.reserve(more)?;
         if self.places.len() < below as usize {
-            self.places.resize(below as usize, None)?;
+            self.places.resize(below as usize, 0)?;
         }
         Ok(())
     }
@@ -67,7 +75,8 @@ impl Pool {
         requires below { key.id < length self.old.keys }
         requires new { key_in self.old key.id ≡ None }
         ensures order { self.new.order ≡ self.old.order }
-        ensures keys { (id : ℕ) → key_in self.new id ≡ (if id == key.id then Some key else key_in self.old id) }
+        ensures keys { (id : ℕ) → key_in self.new id
+            ≡ (if id == key.id then Some key else key_in self.old id) }
         ensures room { self.new.room + 1 ≡ self.old.room }
         ensures below { length self.new.keys ≡ length self.old.keys }
     {
@@ -87,25 +96,25 @@ impl Pool {
     pub fn remove(&mut self, id: u32) -> bool
         ensures held { result ≡ is_some (key_in self.old id) }
         ensures order { self.new.order ≡ self.old.order }
-        ensures keys { (other : ℕ) → key_in self.new other ≡ (if other == id then None else key_in self.old other) }
+        ensures keys { (other : ℕ) → key_in self.new other
+            ≡ (if other == id then None else key_in self.old other) }
         ensures room { self.new.room ≡ (if result then self.old.room + 1 else self.old.room) }
         ensures below { length self.new.keys ≡ length self.old.keys }
     {
         if id as usize >= self.places.len() {
             return false;
         }
-        match self.places[id as usize] {
-            None => false,
-            Some(at) => {
-                take_out(
-                    self.order,
-                    &mut self.keys,
-                    self.places.as_mut_slice(),
-                    id as usize,
-                    at,
-                );
-                true
-            }
+        let place = self.places[id as usize];
+        if place == 0 {
+            return false;
         }
+        take_out(
+            self.order,
+            &mut self.keys,
+            self.places.as_mut_slice(),
+            id as usize,
+            place as usize - 1,
+        );
+        true
     }
 }

@@ -1,5 +1,7 @@
 -- How bytes are cut into lines, and a line into words.
-use Rattle.std.specs.Prelude.{◌≡◌, ◌≢◌, All, Option, Some, None, ℕ, ◌+◌, ◌-◌, length, take, slice_index_or, Bool, true, false, ◌||◌, ◌==◌, List, [], ◌∷◌, map, filter, if◌then◌else◌}
+use Rattle.std.specs.Prelude.{◌≡◌, ◌≢◌, All, Option, Some, None, ℕ, ◌+◌, ◌-◌, length, take}
+use Rattle.std.specs.Prelude.{slice_index_or, Bool, true, false, ◌||◌, ◌==◌, List, [], ◌∷◌, map}
+use Rattle.std.specs.Prelude.{filter, if◌then◌else◌}
 
 abbrev pub is_line_feed : ℕ → Bool
 is_line_feed b = b == 10
@@ -21,7 +23,8 @@ pieces ends (b ∷ bs) = before_pieces (ends b) b (pieces ends bs)
 
 -- one carriage return at the end is dropped
 abbrev pub without_return : List ℕ → List ℕ
-without_return piece = if slice_index_or piece (length piece - 1) 0 == 13 then take (length piece - 1) piece else piece
+without_return piece = if slice_index_or piece (length piece - 1) 0 == 13
+    then take (length piece - 1) piece else piece
 
 abbrev pub is_word : List ℕ → Bool
 is_word [] = false
@@ -54,4 +57,5 @@ pub record Left : Type 0 where
 -- the first of the lines that were left, or nothing where none was
 abbrev pub TakesLine : Left → Option (ℕ × List ℕ) → Left → Type 0
 TakesLine old None new = (old.lines ≡ []) × (new.lines ≡ [])
-TakesLine old (Some line) new = (line.0 ≡ old.number) × (new.number ≡ old.number + 1) × (old.lines ≡ line.1 ∷ new.lines)
+TakesLine old (Some line) new = (line.0 ≡ old.number) × (new.number ≡ old.number + 1)
+    × (old.lines ≡ line.1 ∷ new.lines)

@@ -1,4 +1,4 @@
-//! Lines of a text, and words of a line.
+//! Base: lines of a text, and words of a line.
 #![tactic(auto)]
 
 mod front;

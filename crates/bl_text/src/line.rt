@@ -1,5 +1,6 @@
 ghost use Rattle.std.specs.Prelude.{◌≡◌, ◌<◌, ◌≤◌, ◌^◌, All, length, not};
-ghost use Rattle.bl_text.specs.Pieces.{HasNoLineFeed, leading, is_line_feed, without_return, lines_of};
+ghost use Rattle.bl_text.specs.Pieces.{HasNoLineFeed, leading, is_line_feed, without_return};
+ghost use Rattle.bl_text.specs.Pieces.{lines_of};
 
 use crate::front::behind_first;
 use std::marker::Model;

@@ -1,5 +1,6 @@
 -- The account that the lock's table keeps of a seat, and what each call makes of it.
-use Rattle.std.specs.Prelude.{ℕ, ◌+◌, Bool, true, false, if◌then◌else◌, List, [], ◌∷◌, length, Some, None}
+use Rattle.std.specs.Prelude.{ℕ, ◌+◌, Bool, true, false, if◌then◌else◌, List, [], ◌∷◌, length}
+use Rattle.std.specs.Prelude.{Some, None}
 use Rattle.bl_turn.specs.declared.view.Stage.{Stage}
 use Rattle.bl_turn.specs.declared.view.Stage.TheVariants.{Away, In, Shown, Spent}
 use Rattle.bl_turn.specs.declared.view.Account.{Account}
@@ -21,7 +22,24 @@ HasTurn Spent = ⊥
 module _ {E B : Type 0} where
   -- the account of a seat that was joined into seat 0, of which nothing more is asked
   abbrev pub spent_account : Account E B
-  spent_account = record { stage = Spent; view = record { number = 0; base = None; seen = []; mine = []; given = 0; ended = [] }; first = 0; found = []; before = []; met = []; met_base = None }
+  spent_account =
+      record {
+        stage = Spent;
+        view = record {
+          number = 0;
+          base = None;
+          seen = [];
+          mine =
+              [];
+          given = 0;
+          ended = [];
+        };
+        first = 0;
+        found = [];
+        before = [];
+        met = [];
+        met_base = None;
+      }
 
   abbrev pub is_spent : Account E B → Bool
   is_spent a = is_over a.stage
@@ -33,7 +51,16 @@ module _ {E B : Type 0} where
 
   -- seat 0, where the lock is made
   abbrev pub first_account : (E → ℕ) → List E → B → Account E B
-  first_account by list base = record { stage = Away; view = first_view by list base; first = length list; found = []; before = []; met = []; met_base = Some base }
+  first_account by list base = record {
+    stage = Away;
+    view = first_view by list base;
+    first =
+        length list;
+    found = [];
+    before = [];
+    met = [];
+    met_base = Some base;
+  }
 
   -- a turn began, and found this history
   abbrev pub after_enter : Account E B → List E → Account E B
@@ -41,7 +68,11 @@ module _ {E B : Type 0} where
 
   -- in its turn the seat has shown a value that stands for this list
   abbrev pub after_show : (E → ℕ) → Account E B → List E → Account E B
-  after_show by a list = record a { stage = Shown; view = record a.view { seen = list; mine = entries_by by a.view.number list } }
+  after_show by a list = record a {
+    stage = Shown;
+    view =
+        record a.view { seen = list; mine = entries_by by a.view.number list };
+  }
 
   -- its turn ended
   abbrev pub after_leave : Account E B → Account E B
@@ -52,8 +83,23 @@ module _ {E B : Type 0} where
   after_split a = record a { view = split_view a.view }
 
   abbrev pub new_account : (E → ℕ) → Account E B → Account E B
-  new_account by a = record { stage = Away; view = new_view by a.view; first = a.first; found = []; before = []; met = []; met_base = a.view.base }
+  new_account by a = record {
+    stage = Away;
+    view = new_view by a.view;
+    first = a.first;
+    found =
+        [];
+    before = [];
+    met = [];
+    met_base = a.view.base;
+  }
 
   -- seat 0 after a join
   abbrev pub after_join : Account E B → Account E B → Account E B
-  after_join a b = record a { view = joined_view a.view b.view; before = a.view.seen; met = b.view.seen; met_base = b.view.base }
+  after_join a b = record a {
+    view = joined_view a.view b.view;
+    before = a.view.seen;
+    met =
+        b.view.seen;
+    met_base = b.view.base;
+  }

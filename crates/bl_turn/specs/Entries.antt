@@ -1,5 +1,6 @@
 -- Lists of entries, each of which carries the number of a seat.
-use Rattle.std.specs.Prelude.{◌≡◌, ◌≢◌, ℕ, ◌≤◌, ◌==◌, List, ◌++◌, if◌then◌else◌, filter, length, nat_lt, All}
+use Rattle.std.specs.Prelude.{◌≡◌, ◌≢◌, ℕ, ◌≤◌, ◌==◌, List, ◌++◌, if◌then◌else◌, filter, length}
+use Rattle.std.specs.Prelude.{nat_lt, All}
 
 module _ {E : Type 0} where
   -- the entries that carry the number n, in order

@@ -27,11 +27,13 @@ module _ {V E B : Type 0} {g : Ghosts V E B} where
 
   -- neither `commit` nor `look` was called since the turn began
   abbrev pub IsIn : Held V E B g → Type 0
-  IsIn h = IsOf h.turn.now h.seat.now × (h.seat.now.place.me.0.stage ≡ In) × (h.seat.now.place.me.1 ≡ (0, Out) ∷ [])
+  IsIn h = IsOf h.turn.now h.seat.now × (h.seat.now.place.me.0.stage ≡ In)
+      × (h.seat.now.place.me.1 ≡ (0, Out) ∷ [])
 
   -- `commit` or `look` was called since the turn began
   abbrev pub IsShown : Held V E B g → Type 0
-  IsShown h = IsOf h.turn.now h.seat.now × (h.seat.now.place.me.0.stage ≡ Shown) × ((n : Snapshot V) × (h.seat.now.place.me.1 ≡ (0, Noted n) ∷ []))
+  IsShown h = IsOf h.turn.now h.seat.now × (h.seat.now.place.me.0.stage ≡ Shown)
+      × ((n : Snapshot V) × (h.seat.now.place.me.1 ≡ (0, Noted n) ∷ []))
 
   -- it is the turn of this borrow of a seat
   abbrev pub IsTurnOf : MutBor (Seat V E B g) → Held V E B g → Type 0
@@ -46,5 +48,7 @@ module _ {V E B : Type 0} {g : Ghosts V E B} where
   with_value h w = record h { value = w }
 
 -- the turn ends with the last value behind r for the lock's value
-abbrev pub LendsValue : (V E B : RattleType) (g : Ghosts V.Denot E.Denot B.Denot) → MutBor (Held V.Denot E.Denot B.Denot g) → MutBor V.Denot → Fml
-LendsValue V E B g s r = Lends (the_row (record { mir = named 1; lft = [] }) V E B g) V s r (with_value s.now)
+abbrev pub LendsValue : (V E B : RattleType) (g : Ghosts V.Denot E.Denot B.Denot)
+    → MutBor (Held V.Denot E.Denot B.Denot g) → MutBor V.Denot → Fml
+LendsValue V E B g s r = Lends (the_row (record { mir = named 1; lft = [] }) V E B g) V s r
+    (with_value s.now)

@@ -5,7 +5,8 @@ use crate::turn::Turn;
 
 /// A turn that a seat has at a lock, with the lock's value.
 ///
-/// Change the value or leave it, call `commit` or `look` once, and then `leave`. A turn cannot be dropped.
+/// Change the value or leave it, call `commit` or `look` once, and then `leave`. A turn cannot
+/// be dropped.
 pub struct Held<'a, V: Told> {
     pub(crate) seat: &'a mut Seat<V>,
     pub(crate) turn: &'a Turn<V>,
@@ -16,8 +17,10 @@ impl<'a, V: Told> Held<'a, V> {
     ghost use Rattle.std.specs.Prelude.{◌≡◌, ◌-◌, ◌%◌, ◌^◌, [], ◌∷◌, ◌++◌, length, Some};
     ghost use Rattle.std.specs.Borrow.{sem};
     ghost use Rattle.bl_turn.specs.Views.{committed_view, looked_view, GoesOn};
-    ghost use Rattle.bl_turn.specs.Seats.{view_of, number, seen, base_of, length_at_start, IsAway, SameLock};
-    ghost use Rattle.bl_turn.specs.Turns.{seat_of, value_of, history, IsIn, IsShown, SameBorrow, LendsValue};
+    ghost use Rattle.bl_turn.specs.Seats.{view_of, number, seen, base_of, length_at_start};
+    ghost use Rattle.bl_turn.specs.Seats.{IsAway, SameLock};
+    ghost use Rattle.bl_turn.specs.Turns.{seat_of, value_of, history, IsIn, IsShown, SameBorrow};
+    ghost use Rattle.bl_turn.specs.Turns.{LendsValue};
 
     /// Lends the lock's value.
     pub fn value(&mut self) -> &mut V
@@ -27,8 +30,8 @@ impl<'a, V: Told> Held<'a, V> {
         &mut self.value
     }
 
-    /// Tells the lock of one entry more. The value's list is the history that the turn found and an entry of the seat's
-    /// number; the seat has then seen that list.
+    /// Tells the lock of one entry more. The value's list is the history that the turn found and
+    /// an entry of the seat's number; the seat has then seen that list.
     pub fn commit(&mut self)
         requires turn { IsIn self.old }
         requires entry { (e : _) × (V.told (value_of self.old) ≡ history self.old ++ e ∷ [])
@@ -40,12 +43,14 @@ impl<'a, V: Told> Held<'a, V> {
         ensures history { GoesOn V.by (view_of (seat_of self.old)) (history self.old) }
         ensures seen { seen (seat_of self.new) ≡ V.told (value_of self.old) }
         ensures view { (e : _) → V.told (value_of self.old) ≡ history self.old ++ e ∷ []
-            → view_of (seat_of self.new) ≡ committed_view (view_of (seat_of self.old)) (history self.old) e }
+            → view_of (seat_of self.new) ≡ committed_view (view_of (seat_of self.old))
+            (history self.old) e }
     {
         self.turn.show(self.seat, &self.value, 1);
     }
 
-    /// Tells the lock of no entry. The value's list is the history that the turn found; the seat has then seen it.
+    /// Tells the lock of no entry. The value's list is the history that the turn found; the seat
+    /// has then seen it.
     ///
     /// The answer is for `Turn::sleep`: how many entries came since the lock was made, modulo 2^32.
     pub fn look(&mut self) -> u32
@@ -57,8 +62,10 @@ impl<'a, V: Told> Held<'a, V> {
         ensures value { value_of self.new ≡ value_of self.old }
         ensures history { GoesOn V.by (view_of (seat_of self.old)) (history self.old) }
         ensures seen { seen (seat_of self.new) ≡ V.told (value_of self.old) }
-        ensures view { view_of (seat_of self.new) ≡ looked_view (view_of (seat_of self.old)) (history self.old) }
-        ensures count { result ≡ (length (history self.old) - length_at_start (seat_of self.old)) % 2 ^ 32 }
+        ensures view { view_of (seat_of self.new) ≡ looked_view (view_of (seat_of self.old))
+            (history self.old) }
+        ensures count { result ≡ (length (history self.old) - length_at_start (seat_of self.old))
+            % 2 ^ 32 }
     {
         self.turn.show(self.seat, &self.value, 0)
     }

@@ -4,10 +4,11 @@ ghost use Rattle.std.specs.Prelude.{◌≡◌};
 use crate::rule::Place;
 use crate::told::Told;
 
-/// A seat at a lock, by which one thread takes turns. Contracts see its view; at run time it is two numbers.
+/// A seat at a lock, by which one thread takes turns. Contracts see its view; at run time it is
+/// two numbers.
 ///
-/// Seat 0 gives the others, and takes each of them in again. A seat that is dropped is never taken in, so that its lock
-/// cannot be closed.
+/// Seat 0 gives the others, and takes each of them in again. A seat that is dropped is never
+/// taken in, so that its lock cannot be closed.
 #[derive(Drop)]
 pub struct Seat<V: Told> {
     pub(crate) place: Place<V>,

@@ -191,7 +191,8 @@ fn split_all<R: Abort>(
     requires seat { IsOf turn.now first.old × IsAway first.old }
     requires view { (number first.old ≡ 0) × (given first.old ≡ 0) × (ended first.old ≡ []) }
     ensures seat { IsOf turn.now first.new × IsAway first.new }
-    ensures view { (number first.new ≡ 0) × (given first.new ≡ vec_len result) × (ended first.new ≡ []) }
+    ensures view { (number first.new ≡ 0) × (given first.new ≡ vec_len result)
+        × (ended first.new ≡ []) }
     ensures seats { All (λ s. IsOf turn.now s × IsAway s) result.items }
 {
     let mut seats = Vec::new(alloc);
@@ -258,7 +259,8 @@ fn sleep_all<R: Threads + Wait + Abort + Sync>(rt: &R, turn: &Turn<Log>, seats: 
 
 fn join_all(turn: &Turn<Log>, first: &mut Seat<Log>, mut seats: Vec<Seat<Log>>)
     requires seat { IsOf turn.now first.old × IsAway first.old }
-    requires view { (number first.old ≡ 0) × (given first.old ≡ vec_len seats) × (ended first.old ≡ []) }
+    requires view { (number first.old ≡ 0) × (given first.old ≡ vec_len seats)
+        × (ended first.old ≡ []) }
     requires seats { All (λ s. IsOf turn.now s × IsAway s) seats.items }
     ensures seat { IsOf turn.now first.new × IsAway first.new }
     ensures view { (number first.new ≡ 0) × (length (ended first.new) ≡ given first.new) }

@@ -24,8 +24,8 @@ const COUNT: usize = 1;
 // The lock's one slot, where the value is while no seat has the turn.
 const HOME: usize = 0;
 
-// How often a seat looks at a turn that another has before it sleeps: a few microseconds in all, within which a short
-// turn ends.
+// How often a seat looks at a turn that another has before it sleeps: a few microseconds in all,
+// within which a short turn ends.
 const LOOKS: u32 = 400;
 
 /// A lock round a value that stands for a list of entries. Seats take turns at it.
@@ -101,7 +101,8 @@ impl<V: Told> Turn<V> {
     ghost use Rattle.bl_turn.specs.Views.{first_view, split_view, new_view, joined_view, GoesOn};
     ghost use Rattle.bl_turn.specs.Accounts.{after_enter, after_show};
     ghost use Rattle.bl_turn.specs.Plays.{Tries};
-    ghost use Rattle.bl_turn.specs.Seats.{view_of, number, base_of, seen, mine, given, ended, length_at_start, IsOf, SameLock, IsAway};
+    ghost use Rattle.bl_turn.specs.Seats.{view_of, number, base_of, seen, mine, given, ended};
+    ghost use Rattle.bl_turn.specs.Seats.{length_at_start, IsOf, SameLock, IsAway};
     ghost use Rattle.bl_turn.specs.Turns.{seat_of, value_of, history, IsIn, IsTurnOf};
 
     /// Makes a lock round the value, and its seat 0, which has seen the value's list.
@@ -109,7 +110,8 @@ impl<V: Told> Turn<V> {
     /// Where there is no memory the value comes back.
     pub fn new(alloc: Global, value: V) -> Result<(Turn<V>, Seat<V>), NoMemory<V>>
         ensures seat { IfOk result (λ t. IsOf t.0 t.1 × IsAway t.1) }
-        ensures view { IfOk result (λ t. view_of t.1 ≡ first_view V.by (V.told value) (V.base value)) }
+        ensures view { IfOk result
+            (λ t. view_of t.1 ≡ first_view V.by (V.told value) (V.base value)) }
         ensures start { IfOk result (λ t. length_at_start t.1 ≡ length (V.told value)) }
         ensures err { IfErr result (λ n. n.value ≡ value) }
     {
@@ -153,7 +155,8 @@ impl<V: Told> Turn<V> {
         }
     }
 
-    /// Waits until no other seat has the turn, and takes it. The value then stands for the whole history.
+    /// Waits until no other seat has the turn, and takes it. The value then stands for the whole
+    /// history.
     ///
     /// It first looks for a while whether the turn is free, and then sleeps until a seat leaves.
     pub fn enter<'a, R: Wait>(&'a self, rt: &R, seat: &'a mut Seat<V>) -> Held<'a, V>
@@ -173,14 +176,16 @@ impl<V: Told> Turn<V> {
         }
     }
 
-    /// Takes another seat into seat 0, which has then seen what either has, and keeps the other's entries.
+    /// Takes another seat into seat 0, which has then seen what either has, and keeps the
+    /// other's entries.
     pub fn join(&self, seat: &mut Seat<V>, other: Seat<V>)
         requires seat { IsOf self.now seat.old × IsAway seat.old }
         requires first { number seat.old ≡ 0 }
         requires other { IsOf self.now other × IsAway other }
         ensures seat { IsOf self.now seat.new × IsAway seat.new }
         ensures view { view_of seat.new ≡ joined_view (view_of seat.old) (view_of other) }
-        ensures others { (es : _) × (seen seat.new ≡ seen seat.old ++ es) × FromOneTo V.by (given seat.old) es }
+        ensures others { (es : _) × (seen seat.new ≡ seen seat.old ++ es)
+            × FromOneTo V.by (given seat.old) es }
         ensures met { BeginsWith (seen seat.new) (seen other) }
         ensures base { base_of seat.old ≡ base_of other }
         ensures own { entries_by V.by 0 (seen seat.new) ≡ mine seat.new }
@@ -197,14 +202,15 @@ impl<V: Told> Turn<V> {
         shared.load::<Look<V>>(&mut seat.place, BUSY);
     }
 
-    /// Sleeps until `wake` is called, if no entry was committed since the `look` that answered this count. Where one was
-    /// it returns at once. It may also return for no reason, so look again after it. It changes nothing. Leave the turn
-    /// first: the others wait for it.
+    /// Sleeps until `wake` is called, if no entry was committed since the `look` that answered
+    /// this count. Where one was it returns at once. It may also return for no reason, so look
+    /// again after it. It changes nothing. Leave the turn first: the others wait for it.
     ///
-    /// No wake-up is lost where each thread that commits an entry calls `wake` after it, since every step is
-    /// sequentially consistent. A thread that sleeps is first counted, and then the system reads the count of entries
-    /// and lets it sleep if that is still the same. A commit first adds to the count of entries, and then `wake` reads
-    /// how many sleep. So either `wake` finds that some do and wakes all, or the new count keeps the thread awake.
+    /// No wake-up is lost where each thread that commits an entry calls `wake` after it, since
+    /// every step is sequentially consistent. A thread that sleeps is first counted, and then
+    /// the system reads the count of entries and lets it sleep if that is still the same. A
+    /// commit first adds to the count of entries, and then `wake` reads how many sleep. So
+    /// either `wake` finds that some do and wakes all, or the new count keeps the thread awake.
     /// The count is taken modulo 2^32: so many entries between a look and a sleep are not seen.
     pub fn sleep<R: Wait>(&self, rt: &R, count: u32) {
         self.asleep.fetch_add(1, SeqCst);
@@ -212,8 +218,9 @@ impl<V: Told> Turn<V> {
         self.asleep.fetch_sub(1, SeqCst);
     }
 
-    /// Wakes all threads that sleep until an entry comes, by a call of the system that is left out where none does. It
-    /// changes nothing. Call it after a commit, best once the turn has ended.
+    /// Wakes all threads that sleep until an entry comes, by a call of the system that is left
+    /// out where none does. It changes nothing. Call it after a commit, best once the turn has
+    /// ended.
     pub fn wake(&self) {
         if self.asleep.load(SeqCst) != 0 {
             self.board.shared.wake_all(COUNT);
@@ -252,7 +259,8 @@ impl<V: Told> Turn<V> {
     pub(crate) fn lock<R: Wait>(&self, rt: &R, seat: &mut Seat<V>) -> V
         requires seat { IsOf self.now seat.old × IsAway seat.old }
         ensures seat { IsOf self.now seat.new }
-        ensures turn { seat.new.place.me ≡ (after_enter seat.old.place.me.0 (V.told result), (0, Out) ∷ []) }
+        ensures turn { seat.new.place.me
+            ≡ (after_enter seat.old.place.me.0 (V.told result), (0, Out) ∷ []) }
         ensures base { base_of seat.old ≡ Some (V.base result) }
         ensures history { GoesOn V.by (view_of seat.old) (V.told result) }
     {
@@ -264,15 +272,18 @@ impl<V: Told> Turn<V> {
         unreachable!()
     }
 
-    // Tries to take the turn. Where another seat has it, it waits until it may be worth another call.
+    // Tries to take the turn. Where another seat has it, it waits until it may be worth another
+    // call.
     //
-    // No wake-up is lost, since every step is sequentially consistent. A seat that will sleep first adds itself to
-    // `waiting`, then tries once more, and only then asks the system to let it sleep while busy is 1. A seat that leaves
-    // first stores 0 in busy, and then reads `waiting`. If it reads a number that the other is not yet in, the other's
-    // try comes after its store, so that it finds busy 0, or 1 from a later turn, whose seat leaves later and then reads
-    // that number. If the other is in it, one sleeper is woken, or the other is not asleep yet: then the system finds
-    // that busy is not 1 and lets it go on, or that it is 1 from a later turn. A seat that is woken takes itself off
-    // `waiting`, and adds itself again before it sleeps again.
+    // No wake-up is lost, since every step is sequentially consistent. A seat that will sleep
+    // first adds itself to `waiting`, then tries once more, and only then asks the system to let
+    // it sleep while busy is 1. A seat that leaves first stores 0 in busy, and then reads
+    // `waiting`. If it reads a number that the other is not yet in, the other's try comes after
+    // its store, so that it finds busy 0, or 1 from a later turn, whose seat leaves later and
+    // then reads that number. If the other is in it, one sleeper is woken, or the other is not
+    // asleep yet: then the system finds that busy is not 1 and lets it go on, or that it is 1
+    // from a later turn. A seat that is woken takes itself off `waiting`, and adds itself again
+    // before it sleeps again.
     fn try_or_wait<R: Wait>(&self, rt: &R, seat: &mut Seat<V>) -> bool
         requires seat { IsOf self.now seat.old × IsAway seat.old }
         ensures seat { IsOf self.now seat.new }
@@ -314,17 +325,20 @@ impl<V: Told> Turn<V> {
         false
     }
 
-    // Notes the value in the slot, adds to the count of entries, and answers the low 32 bits that the count had.
+    // Notes the value in the slot, adds to the count of entries, and answers the low 32 bits
+    // that the count had.
     pub(crate) fn show(&self, seat: &mut Seat<V>, value: &V, add: u64) -> u32
         requires seat { IsOf self.now seat.old }
         requires turn { (seat.old.place.me.0.stage ≡ In) × (seat.old.place.me.1 ≡ (0, Out) ∷ []) }
         requires list { (es : _) × (V.told value.now ≡ seat.old.place.me.0.found ++ es)
             × All (λ e. V.by e ≡ number seat.old) es × (length es ≡ add) }
         ensures seat { IsOf self.now seat.new }
-        ensures turn { (seat.new.place.me.0 ≡ after_show V.by seat.old.place.me.0 (V.told value.now))
+        ensures turn { (seat.new.place.me.0
+            ≡ after_show V.by seat.old.place.me.0 (V.told value.now))
             × ((n : _) × (seat.new.place.me.1 ≡ (0, Noted n) ∷ [])) }
         ensures history { GoesOn V.by (view_of seat.old) seat.old.place.me.0.found }
-        ensures count { result ≡ (length seat.old.place.me.0.found - seat.old.place.me.0.first) % 2 ^ 32 }
+        ensures count { result ≡ (length seat.old.place.me.0.found - seat.old.place.me.0.first) %
+            2 ^ 32 }
     {
         let shared = &self.board.shared;
         discard(shared.exchange(&mut seat.place, HOME, Slot::Noted(Snapshot::of(value))));

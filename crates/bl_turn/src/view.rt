@@ -1,4 +1,5 @@
-//! What proofs know of a seat, and what is in the one slot of the lock's table. No view and no account is ever made.
+//! What proofs know of a seat, and what is in the one slot of the lock's table. No view and no
+//! account is ever made.
 use std::collections::LinkedList;
 use std::snapshot::Snapshot;
 

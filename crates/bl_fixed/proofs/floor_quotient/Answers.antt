@@ -1,7 +1,9 @@
 use Rattle.std.proofs.Common.{arith, subst, sym, ℤ, pos, FitsSigned, int_rem, ◌<ℤ◌, ◌≤ℤ◌}
 use Rattle.std.proofs.lemmas.Int.{ints, to_z-of_z}
 use Rattle.std.specs.Int.{w128}
-use Rattle.bl_fixed.proofs.Quotients.{floor-above, floor-exact, floor-above_negative, floor-exact_negative, floor_fits-above, floor_fits-above_negative}
+use Rattle.bl_fixed.proofs.Quotients.{floor-above, floor-exact, floor-above_negative}
+use Rattle.bl_fixed.proofs.Quotients.{floor-exact_negative, floor_fits-above}
+use Rattle.bl_fixed.proofs.Quotients.{floor_fits-above_negative}
 use Rattle.bl_fixed.proofs.floor_quotient.Goals as goal
 use Rattle.bl_fixed.proofs.floor_quotient.Goals.{then-b-gt0, else-b-gt0}
 

@@ -1,6 +1,8 @@
 -- The wrapping steps give the exact rest, since it fits.
-use Rattle.std.proofs.Common.{arith, ◌≡◌, ◌*◌, ◌%◌, ◌^◌, ◌<◌, ◌∙◌, ap, ℤ, ℕ, ◌-ℤ◌, ◌*ℤ◌, int_rem, to_z, of_z}
-use Rattle.std.proofs.lemmas.Int.{ints, to_z-of_z, wrapping_sub-bits, wrapping_mul_is, int_wrap-sub_right, int_wrap_fits, quot-rem}
+use Rattle.std.proofs.Common.{arith, ◌≡◌, ◌*◌, ◌%◌, ◌^◌, ◌<◌, ◌∙◌, ap, ℤ, ℕ, ◌-ℤ◌, ◌*ℤ◌, int_rem}
+use Rattle.std.proofs.Common.{to_z, of_z}
+use Rattle.std.proofs.lemmas.Int.{ints, to_z-of_z, wrapping_sub-bits, wrapping_mul_is}
+use Rattle.std.proofs.lemmas.Int.{int_wrap-sub_right, int_wrap_fits, quot-rem}
 use Rattle.std.proofs.lemmas.Nat.{mod_below}
 use Rattle.std.specs.Int.{w128, int_wrap}
 use Rattle.bl_fixed.proofs.Quotients.{rem_fits}
@@ -19,7 +21,8 @@ returns c =
     let s = int_wrap-sub_right w128 a (q *ℤ b) in
     let t = int_wrap_fits w128 (int_rem a b) (rem_fits a b f) in
     let r = quot-rem a b in
-    let d : a -ℤ q *ℤ b ≡ int_rem a b = ap (λ (z : ℤ). a -ℤ z *ℤ b) c.requires ∙ omega (arith, ints, r) in
+    let d : a -ℤ q *ℤ b ≡ int_rem a b = ap (λ (z : ℤ). a -ℤ z *ℤ b) c.requires
+    ∙ omega (arith, ints, r) in
     let n : to_z w128 (of_z w128 a) ≡ a = to_z-of_z w128 a f in
     e ∙ ap (λ (z : ℤ). int_wrap w128 (z -ℤ to_z w128 k)) n
     ∙ ap (λ (z : ℤ). int_wrap w128 (a -ℤ z)) m

@@ -11,4 +11,5 @@ returns-then-place-bound-clause-behind c =
 pub loop-at-preserved : goal.loop-at-preserved
 loop-at-preserved c =
     let h : c.loop-at.at < length c.args.places.now = omega arith in
-    All-more (λ p. p < c.args.bound) c.args.places.now c.loop-at.at 0 h c.loop-at.invariant (omega arith)
+    All-more (λ p. p < c.args.bound) c.args.places.now c.loop-at.at 0 h c.loop-at.invariant
+    (omega arith)

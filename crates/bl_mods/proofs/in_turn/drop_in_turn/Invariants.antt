@@ -4,7 +4,8 @@ use Rattle.bl_mods.proofs.in_turn.drop_in_turn.Given as goal
 
 abbrev pub invariant-loop-step : goal.invariant-loop-step
 invariant-loop-step l = record {
-  rest : l.both ++ dropped_in_turn l.at (drop l.at l.first) (drop l.next l.later) ≡ dropped_in_turn 0 l.first l.later;
+  rest : l.both ++ dropped_in_turn l.at (drop l.at l.first) (drop l.next l.later)
+      ≡ dropped_in_turn 0 l.first l.later;
   at : l.at ≤ length l.first;
   next : l.next ≤ length l.later;
 }

@@ -6,4 +6,5 @@ pub returns-then-first-at-clause-entry : goal.returns-then-first-at-clause-entry
 returns-then-first-at-clause-entry c =
     let h : c.args.at < length c.args.first.now = omega arith in
     let k : c.args.next < length c.args.later.now = omega arith in
-    step_first c.args.at c.args.next c.args.first.now c.args.later.now h k c.requires.later (omega arith)
+    step_first c.args.at c.args.next c.args.first.now c.args.later.now h k c.requires.later
+    (omega arith)

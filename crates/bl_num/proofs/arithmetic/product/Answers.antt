@@ -10,6 +10,7 @@ returns-clause-small c =
     let g = c.ranges.b in
     let fa : FitsSigned w128 c.args.a = omega (arith, ints) in
     let fb : FitsSigned w128 c.args.b = omega (arith, ints) in
-    let p = product_within c.args.a c.args.b (2 ^ 63) (2 ^ 63) (omega (arith, ints)) (omega (arith, ints)) in
+    let p = product_within c.args.a c.args.b (2 ^ 63) (2 ^ 63) (omega (arith, ints))
+    (omega (arith, ints)) in
     let fp : FitsSigned w128 (c.args.a *ℤ c.args.b) = omega (arith, ints, p) in
     simp to_z-of_z p

@@ -5,7 +5,9 @@ pub returns-clause-front : goal.returns-clause-front
 returns-clause-front c = rw (c.split_at.ensures.front, c.digit_count.ensures.count)
 
 pub returns-clause-behind : goal.returns-clause-behind
-returns-clause-behind c = rw (c.split_at.ensures.back, c.digit_count.ensures.count) (after_digits-drop c.args.text.now)
+returns-clause-behind c = rw (c.split_at.ensures.back, c.digit_count.ensures.count)
+    (after_digits-drop c.args.text.now)
 
 pub returns-clause-digits : goal.returns-clause-digits
-returns-clause-digits c = rw (c.split_at.ensures.front, c.digit_count.ensures.count) (digits_of-digits c.args.text.now)
+returns-clause-digits c = rw (c.split_at.ensures.front, c.digit_count.ensures.count)
+    (digits_of-digits c.args.text.now)

@@ -8,8 +8,10 @@ pub loop-rest-preserved : goal.loop-rest-preserved
 loop-rest-preserved c = record {
   few = omega arith;
   below_one = rw c.power_of_ten-unit.ensures.value (mod_below _ _ (ten_pow-positive _));
-  written = step-written _ _ _ _ _ _ c.loop-rest.invariant.below_one (omega arith) c.power_of_ten-unit.ensures.value c.in_ok-push.ensures.items c.loop-rest.invariant.written;
+  written = step-written _ _ _ _ _ _ c.loop-rest.invariant.below_one (omega arith)
+      c.power_of_ten-unit.ensures.value c.in_ok-push.ensures.items c.loop-rest.invariant.written;
 }
 
 pub returns : goal.returns
-returns c = end-written _ _ c.loop-rest.left c.loop-rest.rest (omega arith) c.loop-rest.invariant.written
+returns c = end-written _ _ c.loop-rest.left c.loop-rest.rest (omega arith)
+    c.loop-rest.invariant.written

@@ -7,7 +7,8 @@ abbrev pub invariant-loop-rest : goal.invariant-loop-rest
 invariant-loop-rest l = record {
   few : l.left ≤ 27;
   below_one : l.rest < 10 ^ l.left;
-  written : l.text.items ++ trimmed (padded l.left l.rest) ≡ l.initial.text.items ++ trimmed (padded l.initial.left l.initial.rest);
+  written : l.text.items ++ trimmed (padded l.left l.rest) ≡ l.initial.text.items
+      ++ trimmed (padded l.initial.left l.initial.rest);
 }
 
 abbrev pub decreases-loop-rest : goal.decreases-loop-rest

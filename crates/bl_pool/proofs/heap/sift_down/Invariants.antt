@@ -7,7 +7,8 @@ invariant-loop-at l = record {
   inside : l.at < length l.keys.items;
   tied : Tied l.keys.items l.places;
   down : Down l.fn.order (key_of l.keys.items) (length l.keys.items) l.at;
-  same : (id : ℕ) → key_at l.keys.items l.places id ≡ key_at l.initial.keys.items l.initial.places id;
+  same : (id : ℕ) → key_at l.keys.items l.places id ≡ key_at l.initial.keys.items l.initial.places
+      id;
   len : length l.keys.items ≡ length l.initial.keys.items;
   room : vec_capacity l.keys ≡ vec_capacity l.initial.keys;
   table : length l.places ≡ length l.initial.places;

@@ -9,6 +9,8 @@ loop-m-preserved g c =
     let h : c.loop-m.m-index < length c.as_slice-m-items.result.now = omega arith in
     record {
       rest = ap (written (drop (c.loop-m.m-index + 1) c.as_slice-m-items.result.now)) c.set.ensures
-          ∙ (written_more c.as_slice-m-items.result.now c.loop-m.m-index c.m-item.result c.loop-m.list h c.m-item.is ∙ c.loop-m.invariant.rest);
-      fits = below_set c.as_slice-m-items.result.now c.loop-m.list c.set.new.self c.m-item.result.place c.m-item.result.entry c.set.ensures c.loop-m.invariant.fits;
+          ∙ (written_more c.as_slice-m-items.result.now c.loop-m.m-index c.m-item.result
+          c.loop-m.list h c.m-item.is ∙ c.loop-m.invariant.rest);
+      fits = below_set c.as_slice-m-items.result.now c.loop-m.list c.set.new.self
+          c.m-item.result.place c.m-item.result.entry c.set.ensures c.loop-m.invariant.fits;
     }

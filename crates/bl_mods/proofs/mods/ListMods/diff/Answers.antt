@@ -7,4 +7,7 @@ use Rattle.bl_mods.proofs.mods.ListMods.diff.Goals as goal
 
 pub returns-clause-applied : goal.returns-clause-applied
 returns-clause-applied g c =
-    IfOk-weaker c.differing.result _ _ (λ mods e. ap (λ (m : ListMods g.row.C.Denot). relisted m c.args.old.now) e ∙ relisted-differences g.C.Item.id_of c.args.old.now c.args.new.now c.requires.part) c.differing.ensures
+    IfOk-weaker c.differing.result _ _
+    (λ mods e. ap (λ (m : ListMods g.row.C.Denot). relisted m c.args.old.now) e
+    ∙ relisted-differences g.C.Item.id_of c.args.old.now c.args.new.now c.requires.part)
+    c.differing.ensures
