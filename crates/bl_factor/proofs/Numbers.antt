@@ -1,14 +1,15 @@
 -- The laws of the saturating operations that products of factors need.
-use Rattle.std.proofs.Common.{◌≡◌, ℕ, suc, ◌+◌, ◌*◌, ◌/◌, ◌<◌, ◌^◌, Bool, true, false, ℤ, pos, negsuc, ◌*ℤ◌, ◌-ℤ◌, ◌-◌, ◌&&◌, neg_ℤ, nat_eq, if◌then◌else◌, refl, sym, ap, ◌∙◌, arith, unsigned_abs, of_z, FitsSigned}
+use Rattle.std.proofs.Common.{◌≡◌, ℕ, suc, ◌+◌, ◌*◌, ◌/◌, ◌<◌, Bool, true, false, ℤ, pos, negsuc}
+use Rattle.std.proofs.Common.{◌*ℤ◌, ◌-ℤ◌, ◌&&◌, nat_eq, if◌then◌else◌, sym, ap, ◌∙◌, arith}
+use Rattle.std.proofs.Common.{unsigned_abs, of_z, FitsSigned}
 use Rattle.std.proofs.lemmas.Int.{ints}
-use Rattle.std.specs.Int.{w128, int_div_euclid, saturate_signed}
-use Rattle.std.proofs.lemmas.Bool.{lt-ltb}
-use Rattle.std.proofs.lemmas.Nat.{shl-shr, div-mul-add}
+use Rattle.std.specs.Int.{w128, saturate_signed}
+use Rattle.std.proofs.lemmas.Nat.{div-mul-add}
 use Rattle.std.proofs.lemmas.Bool.Decides.{nat_tests}
 use Rattle.bl_fixed.specs.declared.Fixed.{Fixed}
-use Rattle.bl_fixed.specs.Fixed.{saturated_difference, saturated_product, saturated_quotient, one, floor_of, fits_i128, nearest_end}
-use Rattle.bl_factor.specs.Vectors.{nought, unity, is_nought, IsPivot}
-use Rattle.bl_factor.specs.Elimination.{less_multiple}
+use Rattle.bl_fixed.specs.Fixed.{saturated_difference, saturated_product, saturated_quotient, one}
+use Rattle.bl_fixed.specs.Fixed.{floor_of, fits_i128, nearest_end}
+use Rattle.bl_factor.specs.Vectors.{nought, is_nought, IsPivot}
 
 pub is_nought-true : (x : Fixed) → is_nought x ≡ true → x ≡ nought
 is_nought-true x h = ap (λ (z : ℤ). record { raw = z }) (zero_of x.raw h)
@@ -31,65 +32,8 @@ is_nought-no x h = of_number x.raw h
     of_number (pos n) h = grind (arith, nat_tests)
     of_number (negsuc n) h = grind (arith, nat_tests)
 
--- ---- quotients by itself, products with 1
-after_times : (n : ℕ) → suc n * 2 ^ 40 ≡ suc (n * 2 ^ 40 + (2 ^ 40 - 1))
-after_times n = omega arith
-
-floor-times_one : (z : ℤ) → floor_of (z *ℤ one) one ≡ z
-floor-times_one (pos n) = ap pos (shl-shr n 40)
-floor-times_one (negsuc n) =
-    ap (λ (m : ℕ). int_div_euclid (neg_ℤ (pos m)) one) (after_times n)
-    ∙ ap negsuc (div-mul-add n (2 ^ 40) (2 ^ 40 - 1) (omega arith))
-
-floor-itself : (z : ℤ) → 0 < unsigned_abs z → floor_of (z *ℤ one) z ≡ one
-floor-itself (pos n) h =
-    let e : n * 2 ^ 40 ≡ 2 ^ 40 * n + 0 = omega arith in
-    ap (λ (m : ℕ). pos (m / n)) e ∙ ap pos (div-mul-add (2 ^ 40) n 0 h)
-floor-itself (negsuc n) h =
-    let e : suc (n * 2 ^ 40 + (2 ^ 40 - 1)) ≡ 2 ^ 40 * suc n + 0 = omega arith in
-    ap (λ (m : ℕ). int_div_euclid (neg_ℤ (neg_ℤ (pos m))) (pos (suc n))) (after_times n)
-    ∙ ap (λ (m : ℕ). pos (m / suc n)) e
-    ∙ ap pos (div-mul-add (2 ^ 40) (suc n) 0 (omega arith))
-
-fits-times_one : (z : ℤ) → unsigned_abs z < 2 ^ 87 → fits_i128 (z *ℤ one) ≡ true
-fits-times_one (pos n) h = lt-ltb (n * 2 ^ 40) (2 ^ 127) (omega arith)
-fits-times_one (negsuc n) h =
-    ap (λ (m : ℕ). fits_i128 (neg_ℤ (pos m))) (after_times n)
-    ∙ lt-ltb (n * 2 ^ 40 + (2 ^ 40 - 1)) (2 ^ 127) (omega arith)
-
 pub if-true : {A : Type 0} (t : Bool) (x y : A) → t ≡ true → (if t then x else y) ≡ x
 if-true t x y h = ap (λ (b : Bool). if b then x else y) h
-
-pub quotient-itself : (w : Fixed) → IsPivot w → unsigned_abs w.raw < 2 ^ 87 → saturated_quotient w w ≡ unity
-unfolding saturated_quotient
-quotient-itself w p m =
-    let q = floor-itself w.raw (omega arith) in
-    let a = fits-times_one w.raw m in
-    let b : fits_i128 (floor_of (w.raw *ℤ one) w.raw) ≡ true = ap fits_i128 q in
-    let t : (fits_i128 (w.raw *ℤ one) && fits_i128 (floor_of (w.raw *ℤ one) w.raw)) ≡ true =
-    ap (λ (u : Bool). u && fits_i128 (floor_of (w.raw *ℤ one) w.raw)) a ∙ b in
-    ap (λ (z : ℤ). record { raw = z }) (if-true _ (floor_of (w.raw *ℤ one) w.raw) (nearest_end (floor_of (w.raw *ℤ one) w.raw)) t ∙ q)
-
-product-one : (c : Fixed) → unsigned_abs c.raw < 2 ^ 87 → saturated_product c unity ≡ c
-unfolding saturated_product
-product-one c m =
-    ap (λ (z : ℤ). record { raw = z })
-    (if-true _ (floor_of (c.raw *ℤ one) one) (nearest_end (floor_of (c.raw *ℤ one) one)) (fits-times_one c.raw m) ∙ floor-times_one c.raw)
-
-difference-itself : (c : Fixed) → saturated_difference c c ≡ nought
-unfolding saturated_difference
-difference-itself c = ap (λ (z : ℤ). record { raw = saturate_signed w128 z }) (zero_of c.raw)
-  where
-    zero_of : (z : ℤ) → z -ℤ z ≡ pos 0
-    zero_of z = omega (arith, ints)
-
-pub less_multiple-itself : (c : Fixed) → unsigned_abs c.raw < 2 ^ 87 → less_multiple c c unity ≡ nought
-unfolding less_multiple
-less_multiple-itself c m = by (is_nought c) refl
-  where
-    by : (t : Bool) → is_nought c ≡ t → (if t then c else saturated_difference c (saturated_product c unity)) ≡ nought
-    by true h = is_nought-true c h
-    by false h = ap (saturated_difference c) (product-one c m) ∙ difference-itself c
 
 -- ---- a quotient of 0, a product with 0
 floor-nought : (z : ℤ) → 0 < unsigned_abs z → floor_of (pos 0 *ℤ one) z ≡ pos 0
@@ -104,14 +48,21 @@ pub quotient-nought : (x p : Fixed) → x ≡ nought → IsPivot p → saturated
 unfolding saturated_quotient
 quotient-nought x p e h =
     let q = floor-nought p.raw (omega arith) in
-    let t : (fits_i128 (pos 0 *ℤ one) && fits_i128 (floor_of (pos 0 *ℤ one) p.raw)) ≡ true = ap fits_i128 q in
+    let t : (fits_i128 (pos 0 *ℤ one) && fits_i128 (floor_of (pos 0 *ℤ one) p.raw)) ≡ true =
+    ap fits_i128 q in
     ap (λ (y : Fixed). saturated_quotient y p) e
-    ∙ ap (λ (z : ℤ). record { raw = z }) (if-true _ (floor_of (pos 0 *ℤ one) p.raw) (nearest_end (floor_of (pos 0 *ℤ one) p.raw)) t ∙ q)
+    ∙ ap (λ (z : ℤ). record { raw = z })
+    (if-true _ (floor_of (pos 0 *ℤ one) p.raw) (nearest_end (floor_of (pos 0 *ℤ one) p.raw)) t
+    ∙ q)
     ∙ sym e
 
 product-nought : (c : Fixed) → saturated_product c nought ≡ nought
 unfolding saturated_product
-product-nought c = ap (λ (z : ℤ). record { raw = if fits_i128 z then floor_of z one else nearest_end (floor_of z one) }) (times_nought c.raw)
+product-nought c =
+    ap (λ (z : ℤ). record {
+      raw = if fits_i128 z then floor_of z one
+          else nearest_end (floor_of z one);
+    }) (times_nought c.raw)
   where
     times_nought : (z : ℤ) → z *ℤ pos 0 ≡ pos 0
     times_nought (pos n) = omega (arith, ints)
@@ -125,7 +76,8 @@ difference-nought x f = ap (λ (z : ℤ). record { raw = z }) (of_number x.raw f
     of_number (pos n) f = let g = f.sfits in grind (arith, ints, nat_tests)
     of_number (negsuc n) f = let g = f.sfits in grind (arith, ints, nat_tests)
 
-pub less_product-nought : (x c q : Fixed) → q ≡ nought → FitsSigned w128 x.raw → saturated_difference x (saturated_product c q) ≡ x
+pub less_product-nought : (x c q : Fixed) → q ≡ nought → FitsSigned w128 x.raw
+    → saturated_difference x (saturated_product c q) ≡ x
 less_product-nought x c q e f =
     ap (λ (y : Fixed). saturated_difference x (saturated_product c y)) e
     ∙ ap (saturated_difference x) (product-nought c)

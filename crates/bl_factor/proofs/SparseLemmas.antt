@@ -1,5 +1,7 @@
 -- Entries by rising place.
-use Rattle.std.proofs.Common.{◌≡◌, ◌≢◌, ℕ, zero, suc, ◌+◌, ◌<◌, ◌≤◌, Bool, true, false, List, [], ◌∷◌, ◌++◌, length, set, get_or, take, nat_eq, if◌then◌else◌, refl, sym, ap, inl, inr, ◌∙◌, subst, arith}
+use Rattle.std.proofs.Common.{◌≡◌, ◌≢◌, ℕ, zero, suc, ◌+◌, ◌<◌, ◌≤◌, Bool, false, List, [], ◌∷◌}
+use Rattle.std.proofs.Common.{◌++◌, length, set, get_or, take, nat_eq, if◌then◌else◌, refl, sym}
+use Rattle.std.proofs.Common.{ap, inl, inr, ◌∙◌, subst, arith}
 use Rattle.std.proofs.lemmas.List.{length-set, take_more}
 use Rattle.std.proofs.lemmas.Bool.{cases_eq, cases_lt, eq-eqb}
 use Rattle.bl_factor.proofs.Columns.{at-set}
@@ -10,17 +12,19 @@ use Rattle.bl_factor.specs.Vectors.{nought, is_nought, at}
 use Rattle.std.specs.List.{fold}
 use Rattle.bl_fixed.specs.Fixed.{saturated_difference, saturated_product}
 use Rattle.bl_factor.specs.Elimination.{less_multiple, taken_off}
-use Rattle.bl_factor.specs.Sparse.{IsSparse, value_at}
+use Rattle.bl_factor.specs.Sparse.{IsSparse, value_at, AreBeside}
 
 -- outside of the entries' range the column is 0
-pub value_at-below : (low n : ℕ) (es : List Entry) (i : ℕ) → IsSparse low n es → i < low → value_at es i ≡ nought
+pub value_at-below : (low n : ℕ) (es : List Entry) (i : ℕ) → IsSparse low n es → i < low
+    → value_at es i ≡ nought
 value_at-below low n [] i s h = refl
 value_at-below low n (e ∷ es) i s h =
     let later = value_at-below (suc e.place) n es i s.3 (omega (arith, s.0)) in
     let p = s.0 in
     grind (arith, nat_tests)
 
-pub value_at-past : (low n : ℕ) (es : List Entry) (i : ℕ) → IsSparse low n es → n ≤ i → value_at es i ≡ nought
+pub value_at-past : (low n : ℕ) (es : List Entry) (i : ℕ) → IsSparse low n es → n ≤ i
+    → value_at es i ≡ nought
 value_at-past low n [] i s h = refl
 value_at-past low n (e ∷ es) i s h =
     let later = value_at-past (suc e.place) n es i s.3 h in
@@ -28,21 +32,31 @@ value_at-past low n (e ∷ es) i s h =
     grind (arith, nat_tests)
 
 -- one more entry at the end
-pub IsSparse-push : (low m n : ℕ) (es : List Entry) (e : Entry) → IsSparse low m es → low ≤ e.place → m ≤ e.place → e.place < n → is_nought e.value ≡ false → IsSparse low n (es ++ e ∷ [])
+pub IsSparse-push : (low m n : ℕ) (es : List Entry) (e : Entry) → IsSparse low m es → low
+    ≤ e.place → m ≤ e.place → e.place < n → is_nought e.value ≡ false
+    → IsSparse low n (es ++ e ∷ [])
 IsSparse-push low m n [] e s a b c d = (a, c, d, tt)
-IsSparse-push low m n (x ∷ es) e s a b c d =
-    (s.0, omega (arith, s.1), s.2, IsSparse-push (suc x.place) m n es e s.3 (omega (arith, s.1)) b c d)
+IsSparse-push low m n (x ∷ es) e s a b c d = (
+  s.0,
+  omega (arith, s.1),
+  s.2,
+  IsSparse-push (suc x.place) m n es e s.3 (omega (arith, s.1)) b
+      c d,
+)
 
-pub value_at-push : (low m : ℕ) (es : List Entry) (e : Entry) (i : ℕ) → IsSparse low m es → m ≤ e.place → value_at (es ++ e ∷ []) i ≡ (if nat_eq e.place i then e.value else value_at es i)
+pub value_at-push : (low m : ℕ) (es : List Entry) (e : Entry) (i : ℕ) → IsSparse low m es → m
+    ≤ e.place → value_at (es ++ e ∷ []) i ≡ (if nat_eq e.place i then e.value else value_at es i)
 value_at-push low m [] e i s h = refl
 value_at-push low m (x ∷ es) e i s h =
     let later = value_at-push (suc x.place) m es e i s.3 h in
     let p = s.1 in
     grind (arith, nat_tests)
 
-pub IsSparse-weaker : (low m n : ℕ) (es : List Entry) → IsSparse low m es → m ≤ n → IsSparse low n es
+pub IsSparse-weaker : (low m n : ℕ) (es : List Entry) → IsSparse low m es → m ≤ n
+    → IsSparse low n es
 IsSparse-weaker low m n [] s h = tt
-IsSparse-weaker low m n (e ∷ es) s h = (s.0, omega (arith, s.1), s.2, IsSparse-weaker (suc e.place) m n es s.3 h)
+IsSparse-weaker low m n (e ∷ es) s h =
+    (s.0, omega (arith, s.1), s.2, IsSparse-weaker (suc e.place) m n es s.3 h)
 
 -- an entry, and those before it
 pub record IsNext (low n : ℕ) (es : List Entry) (e : Entry) : Type 0 where
@@ -51,7 +65,8 @@ pub record IsNext (low n : ℕ) (es : List Entry) (e : Entry) : Type 0 where
   pub below : e.place < n
   pub filled : is_nought e.value ≡ false
 
-pub next_entry : (low n : ℕ) (es : List Entry) (i : ℕ) (d : Entry) → IsSparse low n es → i < length es → IsNext low n (take i es) (get_or es i d)
+pub next_entry : (low n : ℕ) (es : List Entry) (i : ℕ) (d : Entry) → IsSparse low n es → i
+    < length es → IsNext low n (take i es) (get_or es i d)
 next_entry low n [] i d s h = absurd (omega arith)
 next_entry low n (e ∷ es) zero d s h = record { before = tt; from = s.0; below = s.1; filled = s.2 }
 next_entry low n (e ∷ es) (suc i) d s h =
@@ -69,19 +84,28 @@ less_entry xs rest e = saturated_difference rest (saturated_product e.value (at 
 
 pub less_multiple-nought : (x c q : Fixed) → c ≡ nought → less_multiple x c q ≡ x
 unfolding less_multiple
-less_multiple-nought x c q e = ap (λ (z : Fixed). if is_nought z then x else saturated_difference x (saturated_product z q)) e
+less_multiple-nought x c q e = ap (λ (z : Fixed). if is_nought z then x
+    else saturated_difference x (saturated_product z q)) e
 
-pub less_multiple-filled : (x c q : Fixed) → is_nought c ≡ false → less_multiple x c q ≡ saturated_difference x (saturated_product c q)
+pub less_multiple-filled : (x c q : Fixed) → is_nought c ≡ false → less_multiple x c q
+    ≡ saturated_difference x (saturated_product c q)
 unfolding less_multiple
-less_multiple-filled x c q e = ap (λ (t : Bool). if t then x else saturated_difference x (saturated_product c q)) e
+less_multiple-filled x c q e =
+    ap (λ (t : Bool). if t then x else saturated_difference x (saturated_product c q)) e
 
-pub value_at-first : (x : Entry) (es : List Entry) (i : ℕ) → x.place ≡ i → value_at (x ∷ es) i ≡ x.value
-value_at-first x es i p = let t = eq-eqb x.place i p in ap (λ (b : Bool). if b then x.value else value_at es i) t
+pub value_at-first : (x : Entry) (es : List Entry) (i : ℕ) → x.place ≡ i → value_at (x ∷ es) i
+    ≡ x.value
+value_at-first x es i p = let t =
+    eq-eqb x.place i p in ap (λ (b : Bool). if b then x.value else value_at es i) t
 
-pub value_at-later : (x : Entry) (es : List Entry) (i : ℕ) → x.place < i → value_at (x ∷ es) i ≡ value_at es i
+pub value_at-later : (x : Entry) (es : List Entry) (i : ℕ) → x.place < i → value_at (x ∷ es) i
+    ≡ value_at es i
 value_at-later x es i p = grind (arith, nat_tests)
 
-pub taken_off-entries : (low k n : ℕ) (es : List Entry) (c : ℕ → Fixed) (xs : List Fixed) (rest : Fixed) → n ≡ low + k → IsSparse low n es → ((i : ℕ) → low ≤ i → i < n → c i ≡ value_at es i) → taken_off c xs low k rest ≡ fold (less_entry xs) rest es
+pub taken_off-entries : (low k n : ℕ) (es : List Entry) (c : ℕ → Fixed) (xs : List Fixed)
+    (rest : Fixed) → n ≡ low + k → IsSparse low n es
+    → ((i : ℕ) → low ≤ i → i < n → c i ≡ value_at es i) → taken_off c xs low k rest
+    ≡ fold (less_entry xs) rest es
 unfolding taken_off
 taken_off-entries low zero n [] c xs rest e s h = refl
 taken_off-entries low zero n (x ∷ es) c xs rest e s h = absurd (omega (arith, s.0, s.1))
@@ -102,10 +126,12 @@ taken_off-entries low (suc k) n (x ∷ es) c xs rest e s h = elim (cases_eq x.pl
       (λ i a b. h i (omega arith) b ∙ value_at-later x es i (omega arith))
   | inr q ↦
       let f : low < x.place = omega (arith, s.0) in
-      let v : c low ≡ nought = h low (omega arith) (omega arith) ∙ value_at-below (suc low) n (x ∷ es) low (f, s.1, s.2, s.3) (omega arith) in
+      let v : c low ≡ nought = h low (omega arith) (omega arith)
+      ∙ value_at-below (suc low) n (x ∷ es) low (f, s.1, s.2, s.3) (omega arith) in
       let l = less_multiple-nought rest (c low) (at xs low) v in
       ap (taken_off c xs (suc low) k) l
-      ∙ taken_off-entries (suc low) k n (x ∷ es) c xs rest (omega arith) (f, s.1, s.2, s.3) (λ i a b. h i (omega arith) b)
+      ∙ taken_off-entries (suc low) k n (x ∷ es) c xs rest (omega arith) (f, s.1, s.2, s.3)
+      (λ i a b. h i (omega arith) b)
 ]
 
 -- what the code reads past the end
@@ -113,8 +139,10 @@ abbrev pub no_entry : Entry
 no_entry = record { place = 0; value = nought }
 
 -- the entries so far and the next one
-pub value_at-take_more : (low n : ℕ) (es : List Entry) (i k : ℕ) → IsSparse low n es → i < length es →
-    value_at (take (i + 1) es) k ≡ (if nat_eq (get_or es i no_entry).place k then (get_or es i no_entry).value else value_at (take i es) k)
+pub value_at-take_more : (low n : ℕ) (es : List Entry) (i k : ℕ) → IsSparse low n es → i
+    < length es →
+    value_at (take (i + 1) es) k ≡ (if nat_eq (get_or es i no_entry).place k
+    then (get_or es i no_entry).value else value_at (take i es) k)
 value_at-take_more low n es i k s h =
     let e = get_or es i no_entry in
     let x = next_entry low n es i no_entry s h in
@@ -123,14 +151,17 @@ value_at-take_more low n es i k s h =
 
 -- each number of ys is that of xs less its multiple, as far as the first i entries go
 abbrev pub IsLess : List Fixed → List Entry → Fixed → ℕ → List Fixed → Type 0
-IsLess xs es q i ys = (k : ℕ) → k < length ys → at ys k ≡ less_multiple (at xs k) (value_at (take i es) k) q
+IsLess xs es q i ys = (k : ℕ) → k < length ys → at ys k
+    ≡ less_multiple (at xs k) (value_at (take i es) k) q
 
 pub IsLess-none : (xs : List Fixed) (es : List Entry) (q : Fixed) → IsLess xs es q 0 xs
 IsLess-none xs es q k h = sym (less_multiple-nought (at xs k) nought q refl)
 
-pub IsLess-more : (xs ys : List Fixed) (es : List Entry) (q : Fixed) (i : ℕ) → IsSparse 0 (length ys) es → i < length es → IsLess xs es q i ys →
+pub IsLess-more : (xs ys : List Fixed) (es : List Entry) (q : Fixed) (i : ℕ)
+    → IsSparse 0 (length ys) es → i < length es → IsLess xs es q i ys →
     IsLess xs es q (i + 1) (set ys (get_or es i no_entry).place
-    (saturated_difference (at ys (get_or es i no_entry).place) (saturated_product (get_or es i no_entry).value q)))
+    (saturated_difference (at ys (get_or es i no_entry).place)
+    (saturated_product (get_or es i no_entry).value q)))
 IsLess-more xs ys es q i s h before k l =
     let e = get_or es i no_entry in
     let x = next_entry 0 (length ys) es i no_entry s h in
@@ -141,18 +172,23 @@ IsLess-more xs ys es q i s h before k l =
       | inl p ↦
           let t = eq-eqb k e.place (sym p.1) in
           let y = before e.place x.below in
-          let v : value_at (take i es) e.place ≡ nought = value_at-past 0 e.place (take i es) e.place x.before (omega arith) in
-          let u : at ys e.place ≡ at xs e.place = y ∙ less_multiple-nought (at xs e.place) (value_at (take i es) e.place) q v in
+          let v : value_at (take i es) e.place ≡ nought =
+          value_at-past 0 e.place (take i es) e.place x.before (omega arith) in
+          let u : at ys e.place ≡ at xs e.place =
+          y ∙ less_multiple-nought (at xs e.place) (value_at (take i es) e.place) q v in
           let f = less_multiple-filled (at xs e.place) e.value q x.filled in
           let r : at (set ys e.place z) k ≡ z = w ∙ ap (λ (b : Bool). if b then z else at ys k) t in
-          let c : value_at (take (i + 1) es) k ≡ e.value = m ∙ ap (λ (b : Bool). if b then e.value else value_at (take i es) k) p.0 in
+          let c : value_at (take (i + 1) es) k ≡ e.value =
+          m ∙ ap (λ (b : Bool). if b then e.value else value_at (take i es) k) p.0 in
           r ∙ ap (λ (a : Fixed). saturated_difference a (saturated_product e.value q)) u ∙ sym f
           ∙ ap (λ (j : ℕ). less_multiple (at xs j) e.value q) p.1
           ∙ sym (ap (λ (a : Fixed). less_multiple (at xs k) a q) c)
       | inr p ↦
           let t : nat_eq k e.place ≡ false = grind (arith, nat_tests, p.1) in
-          let r : at (set ys e.place z) k ≡ at ys k = w ∙ ap (λ (b : Bool). if b then z else at ys k) t in
-          let c : value_at (take (i + 1) es) k ≡ value_at (take i es) k = m ∙ ap (λ (b : Bool). if b then e.value else value_at (take i es) k) p.0 in
+          let r : at (set ys e.place z) k ≡ at ys k =
+          w ∙ ap (λ (b : Bool). if b then z else at ys k) t in
+          let c : value_at (take (i + 1) es) k ≡ value_at (take i es) k =
+          m ∙ ap (λ (b : Bool). if b then e.value else value_at (take i es) k) p.0 in
           let l' : k < length ys = omega (arith, l, length-set ys e.place z) in
           r ∙ before k l' ∙ sym (ap (λ (a : Fixed). less_multiple (at xs k) a q) c)
     ]
@@ -161,7 +197,8 @@ IsLess-more xs ys es q i s h before k l =
 abbrev pub HasEntries : List Entry → ℕ → List Fixed → Type 0
 HasEntries es i ys = (k : ℕ) → k < length ys → at ys k ≡ value_at (take i es) k
 
-pub HasEntries-more : (ys : List Fixed) (es : List Entry) (i : ℕ) → IsSparse 0 (length ys) es → i < length es → HasEntries es i ys →
+pub HasEntries-more : (ys : List Fixed) (es : List Entry) (i : ℕ) → IsSparse 0 (length ys) es → i
+    < length es → HasEntries es i ys →
     HasEntries es (i + 1) (set ys (get_or es i no_entry).place (get_or es i no_entry).value)
 HasEntries-more ys es i s h before k l =
     let e = get_or es i no_entry in
@@ -181,110 +218,53 @@ HasEntries-more ys es i s h before k l =
           ∙ sym (m ∙ ap (λ (b : Bool). if b then e.value else value_at (take i es) k) p.0)
     ]
 
--- the entries of the column's first i places, but for the one at `except`
-pub record IsPart (column : List Fixed) (except i : ℕ) (es : List Entry) : Type 0 where
+-- the entries of the column's first i places
+pub record IsPart (column : List Fixed) (i : ℕ) (es : List Entry) : Type 0 where
   pub sparse : IsSparse 0 i es
-  pub values : (k : ℕ) → k < i → value_at es k ≡ (if nat_eq k except then nought else at column k)
+  pub values : (k : ℕ) → k < i → value_at es k ≡ at column k
 
-pub IsPart-push : (column : List Fixed) (except i : ℕ) (es : List Entry) → is_nought (at column i) ≡ false → i ≢ except →
-    IsPart column except i es → IsPart column except (i + 1) (es ++ record { place = i; value = at column i } ∷ [])
-IsPart-push column except i es f ne p =
+pub IsPart-push : (column : List Fixed) (i : ℕ) (es : List Entry) → is_nought (at column i)
+    ≡ false → IsPart column i es →
+    IsPart column (i + 1) (es ++ record { place = i; value = at column i } ∷ [])
+IsPart-push column i es f p =
     let e : Entry = record { place = i; value = at column i } in
     record {
       sparse = IsSparse-push 0 i (i + 1) es e p.sparse (omega arith) (omega arith) (omega arith) f;
       values = λ k l.
           let m = value_at-push 0 i es e k p.sparse (omega arith) in
           elim (eqb_tells i k) [
-            | inl q ↦
-                let t : nat_eq k except ≡ false = grind (arith, nat_tests, q.1, ne) in
-                m ∙ ap (λ (b : Bool). if b then at column i else value_at es k) q.0 ∙ ap (at column) q.1
-                ∙ sym (ap (λ (b : Bool). if b then nought else at column k) t)
+            | inl q ↦ m ∙ ap (λ (b : Bool). if b then at column i else value_at es k) q.0
+                ∙ ap (at column) q.1
             | inr q ↦
                 let l' : k < i = grind (arith, nat_tests, q.1, l) in
                 m ∙ ap (λ (b : Bool). if b then at column i else value_at es k) q.0 ∙ p.values k l'
           ];
     }
 
-pub IsPart-same : (column : List Fixed) (except i : ℕ) (es : List Entry) → (if nat_eq i except then nought else at column i) ≡ nought →
-    IsPart column except i es → IsPart column except (i + 1) es
-IsPart-same column except i es z p = record {
+pub IsPart-nought : (column : List Fixed) (i : ℕ) (es : List Entry) → at column i ≡ nought
+    → IsPart column i es → IsPart column (i + 1) es
+IsPart-nought column i es z p = record {
   sparse = IsSparse-weaker 0 i (i + 1) es p.sparse (omega arith);
   values = λ k l. elim (cases_lt k i) [
     | inl h ↦ p.values k h
-    | inr h ↦
-        let e : k ≡ i = omega arith in
-        value_at-past 0 i es k p.sparse h ∙ sym z ∙ ap (λ (j : ℕ). if nat_eq j except then nought else at column j) (sym e)
+    | inr h ↦ let e : k ≡ i = omega arith in value_at-past 0 i es k p.sparse h ∙ sym z
+        ∙ ap (at column) (sym e)
   ];
 }
 
-pub IsPart-excepted : (column : List Fixed) (except i : ℕ) (es : List Entry) → i ≡ except → IsPart column except i es → IsPart column except (i + 1) es
-IsPart-excepted column except i es e p =
-    IsPart-same column except i es (ap (λ (b : Bool). if b then nought else at column i) (eq-eqb i except e)) p
-
-pub IsPart-nought : (column : List Fixed) (except i : ℕ) (es : List Entry) → at column i ≡ nought → IsPart column except i es → IsPart column except (i + 1) es
-IsPart-nought column except i es e p =
-    IsPart-same column except i es (ap (λ (y : Fixed). if nat_eq i except then nought else y) e ∙ same (nat_eq i except)) p
-  where
-    same : (b : Bool) → (if b then nought else nought) ≡ nought
-    same true = refl
-    same false = refl
-
--- ---- some of the entries
-last_below : (low m : ℕ) (es : List Entry) (e : Entry) → IsSparse low m (es ++ e ∷ []) → (e.place < m) × IsSparse low m es
-last_below low m [] e s = (s.1, tt)
-last_below low m (x ∷ es) e s = let later = last_below (suc x.place) m es e s.3 in let rest : IsSparse low m (x ∷ es) = (s.0, s.1, s.2, later.1) in (later.0, rest)
-
--- the number that is wanted of a column at a place
-abbrev pub but_for : List Fixed → ℕ → ℕ → Fixed
-but_for column except i = if nat_eq i except then nought else at column i
-
--- of the given entries' places, those where the column has a number, but for the one at `except`
-pub record Picks (column : List Fixed) (except : ℕ) (es part : List Entry) : Type 0 where
-  pub sparse : (m : ℕ) → IsSparse 0 m es → IsSparse 0 m part
-  pub values : (i : ℕ) → i < length column → value_at part i ≡ (if is_nought (value_at es i) then nought else but_for column except i)
-
-pub nought_either : (b : Bool) → (if b then nought else nought) ≡ nought
-nought_either true = refl
-nought_either false = refl
-
-pub Picks-push : (column : List Fixed) (except : ℕ) (es part : List Entry) (e : Entry) → IsSparse 0 e.place es → is_nought e.value ≡ false →
-    is_nought (at column e.place) ≡ false → e.place ≢ except → Picks column except es part →
-    Picks column except (es ++ e ∷ []) (part ++ record { place = e.place; value = at column e.place } ∷ [])
-Picks-push column except es part e s f g ne p =
-    let n : Entry = record { place = e.place; value = at column e.place } in
+-- ---- the entries beside a place
+pub AreBeside-push : (m n place : ℕ) (es : List Entry) (e : Entry) → AreBeside m place es → m
+    ≤ e.place → e.place < n → is_nought e.value ≡ false → e.place ≢ place →
+    AreBeside n place (es ++ e ∷ [])
+AreBeside-push m n place es e b h l f ne =
+    let t : nat_eq e.place place ≡ false = grind (arith, nat_tests, ne) in
     record {
-      sparse = λ m t. let l = last_below 0 m es e t in IsSparse-push 0 e.place m part n (p.sparse e.place s) (omega arith) (omega arith) l.0 g;
-      values = λ i l.
-          let a = value_at-push 0 e.place part n i (p.sparse e.place s) (omega arith) in
-          let b = value_at-push 0 e.place es e i s (omega arith) in
-          elim (eqb_tells e.place i) [
-            | inl q ↦
-                let t : nat_eq i except ≡ false = grind (arith, nat_tests, q.1, ne) in
-                let v = b ∙ ap (λ (y : Bool). if y then e.value else value_at es i) q.0 in
-                a ∙ ap (λ (y : Bool). if y then at column e.place else value_at part i) q.0 ∙ ap (at column) q.1
-                ∙ sym (ap (λ (y : Fixed). if is_nought y then nought else but_for column except i) v
-                ∙ ap (λ (y : Bool). if y then nought else but_for column except i) f
-                ∙ ap (λ (y : Bool). if y then nought else at column i) t)
-            | inr q ↦
-                let v = b ∙ ap (λ (y : Bool). if y then e.value else value_at es i) q.0 in
-                a ∙ ap (λ (y : Bool). if y then at column e.place else value_at part i) q.0 ∙ p.values i l
-                ∙ sym (ap (λ (y : Fixed). if is_nought y then nought else but_for column except i) v)
-          ];
+      sparse = IsSparse-push 0 m n es e b.sparse (omega arith) h l f;
+      apart = value_at-push 0 m es e place b.sparse h
+          ∙ ap (λ (y : Bool). if y then e.value else value_at es place) t ∙ b.apart;
     }
 
-pub Picks-same : (column : List Fixed) (except : ℕ) (es part : List Entry) (e : Entry) → IsSparse 0 e.place es →
-    but_for column except e.place ≡ nought → Picks column except es part → Picks column except (es ++ e ∷ []) part
-Picks-same column except es part e s z p = record {
-  sparse = λ m t. p.sparse m (last_below 0 m es e t).1;
-  values = λ i l.
-      let b = value_at-push 0 e.place es e i s (omega arith) in
-      elim (eqb_tells e.place i) [
-        | inl q ↦
-            let w : but_for column except i ≡ nought = ap (but_for column except) (sym q.1) ∙ z in
-            value_at-past 0 e.place part i (p.sparse e.place s) (omega (arith, q.1))
-            ∙ sym (ap (λ (y : Fixed). if is_nought (value_at (es ++ e ∷ []) i) then nought else y) w ∙ nought_either (is_nought (value_at (es ++ e ∷ []) i)))
-        | inr q ↦
-            let v = b ∙ ap (λ (y : Bool). if y then e.value else value_at es i) q.0 in
-            p.values i l ∙ sym (ap (λ (y : Fixed). if is_nought y then nought else but_for column except i) v)
-      ];
-}
+pub AreBeside-weaker : (m n place : ℕ) (es : List Entry) → AreBeside m place es → m ≤ n
+    → AreBeside n place es
+AreBeside-weaker m n place es b h =
+    record { sparse = IsSparse-weaker 0 m n es b.sparse h; apart = b.apart }

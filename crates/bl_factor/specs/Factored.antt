@@ -1,4 +1,5 @@
--- What a factor stands for: a square matrix, and a product of elementary factors that solves for it.
+-- What a factor stands for: a square matrix, and a product of elementary factors that solves for
+-- it.
 use Rattle.std.specs.Prelude.{ℕ, List, length, map}
 use Rattle.std.specs.List.{range_with_len}
 use Rattle.bl_fixed.specs.declared.Fixed.{Fixed}

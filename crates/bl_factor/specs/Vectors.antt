@@ -1,6 +1,7 @@
 -- Columns of fixed-point numbers.
-use Rattle.std.specs.Prelude.{ℕ, Bool, List, ◌<◌, ◌≤◌, ◌^◌, map, pos, unsigned_abs, nat_eq, slice_index_or, if◌then◌else◌}
-use Rattle.std.specs.List.{range_with_len, All}
+use Rattle.std.specs.Prelude.{ℕ, Bool, List, ◌≤◌, ◌^◌, map, pos, unsigned_abs, nat_eq}
+use Rattle.std.specs.Prelude.{slice_index_or, if◌then◌else◌}
+use Rattle.std.specs.List.{range_with_len}
 use Rattle.bl_fixed.specs.declared.Fixed.{Fixed}
 use Rattle.bl_fixed.specs.Fixed.{one}
 

@@ -1,18 +1,18 @@
-// Making a product anew from the columns of its matrix: lower factors that clear each column at the open places, and upper
-// ones that clear the rest, the last first.
-ghost use Rattle.std.specs.Prelude.{◌≡◌, ◌<◌, ◌≤◌, ◌^◌, ◌⊎◌, ◌++◌, ◌∷◌, [], length, IfOk, OnOk, IfSome, map};
+// Making a product anew from the columns of its matrix: lower factors that clear each column at
+// the open places, and upper ones that clear the rest, the last first.
+ghost use Rattle.std.specs.Prelude.{◌≡◌, ◌<◌, ◌≤◌, ◌^◌, ◌⊎◌, ◌++◌, ◌∷◌, [], length, IfOk, OnOk};
+ghost use Rattle.std.specs.Prelude.{IfSome};
 ghost use Rattle.std.specs.List.{All};
 ghost use Rattle.bl_factor.specs.Vectors.{at, IsPivot};
-ghost use Rattle.bl_factor.specs.Sparse.{AreEntries, AreColumns};
-ghost use Rattle.bl_factor.specs.Support.{IsRising, restricted, IsPivotRow};
+ghost use Rattle.bl_factor.specs.Sparse.{AreColumns};
+ghost use Rattle.bl_factor.specs.Support.{IsRising, IsPivotRow};
 ghost use Rattle.bl_factor.specs.Etas.{IsEta, AreEtas};
-ghost use Rattle.bl_factor.specs.Others.{listed, widened};
 
 use crate::eta::Eta;
 use crate::ordering::Order;
-use crate::others::{NarrowEntry, Others};
+use crate::others::Others;
 use crate::sparse::Entry;
-use crate::{division, eta, ordering, sparse, support};
+use crate::{eta, ordering, sparse, support};
 use bl_fixed::Fixed;
 use std::alloc::{AllocError, Global};
 
@@ -25,7 +25,7 @@ const PIVOT_PART: u128 = 16;
 /// A product for the columns; None where a pivot would be too small.
 pub(crate) fn made_anew(
     alloc: Global,
-    columns: &[Vec<Entry>],
+    columns: &[Option<Vec<Entry>>],
 ) -> Result<Option<Vec<Eta>>, AllocError>
     requires short { length columns.now < 2 ^ 32 }
     requires columns { AreColumns (length columns.now) columns.now }
@@ -67,7 +67,7 @@ impl Reduction {
     ghost use Rattle.bl_factor.specs.Sparse.{AreColumns};
     ghost use Rattle.bl_factor.specs.Making.{Reduces};
 
-    fn new(alloc: Global, columns: &[Vec<Entry>]) -> Result<Reduction, AllocError>
+    fn new(alloc: Global, columns: &[Option<Vec<Entry>>]) -> Result<Reduction, AllocError>
         requires { AreColumns (length columns.now) columns.now }
         ensures { IfOk result (Reduces columns.now) }
     {
@@ -95,7 +95,7 @@ impl Reduction {
     fn close(
         &mut self,
         alloc: Global,
-        columns: &[Vec<Entry>],
+        columns: &[Option<Vec<Entry>>],
         place: usize,
         image: &mut [Fixed],
         at_open: &mut [u32],
@@ -120,7 +120,7 @@ impl Reduction {
     fn close_open(
         &mut self,
         alloc: Global,
-        columns: &[Vec<Entry>],
+        columns: &[Option<Vec<Entry>>],
         place: usize,
         image: &mut [Fixed],
         at_open: &mut [u32],
@@ -146,7 +146,7 @@ impl Reduction {
         };
         image.swap(place, row);
         self.order.ranks.swap(place, row);
-        let lower = lower_factor(alloc, image, rows, place, row)?;
+        let lower = eta::make(alloc, image, rows, place, row)?;
         let upper = upper_factor(alloc, image, others, place)?;
         self.lower.push(lower)?;
         push_unless_unit(&mut self.upper, upper)?;
@@ -171,119 +171,29 @@ impl Reduction {
     }
 }
 
-// The places whose columns are not unit columns of their places.
-fn open_places(alloc: Global, columns: &[Vec<Entry>]) -> Result<Vec<bool>, AllocError>
+// The places whose columns are not the unit columns of their places.
+fn open_places(alloc: Global, columns: &[Option<Vec<Entry>>]) -> Result<Vec<bool>, AllocError>
     ensures { IfOk result (λ is_open. length is_open.items ≡ length columns.now) }
 {
     let mut is_open = Vec::with_capacity(alloc, columns.len())?;
-    for (place, column) in columns.iter().enumerate() {
-        is_open.push(!sparse::is_unit(column.as_slice(), place))?;
+    for column in columns {
+        is_open.push(column.is_some())?;
     }
     Ok(is_open)
 }
 
-// Leaves in `image` that of a column.
-fn leave_image(columns: &[Vec<Entry>], place: usize, etas: &[Eta], image: &mut [Fixed])
+// Leaves in `image` that of a column that is no unit column.
+fn leave_image(columns: &[Option<Vec<Entry>>], place: usize, etas: &[Eta], image: &mut [Fixed])
     requires long { length image.old ≡ length columns.now }
     requires columns { AreColumns (length columns.now) columns.now }
     requires place_in { place < length columns.now }
     requires etas { AreEtas (length columns.now) etas.now }
 {
-    sparse::spread(columns[place].as_slice(), image);
+    match &columns[place] {
+        Some(column) => sparse::spread(column.as_slice(), image),
+        None => image.fill(Fixed { raw: 0 }),
+    }
     eta::apply_all(etas, image);
-}
-
-// The entries of an image at these places, but for the one at `except`.
-fn part_others(
-    alloc: Global,
-    image: &[Fixed],
-    places: &[u32],
-    except: usize,
-) -> Result<Others, AllocError>
-    requires { IsRising 0 (length image.now) places.now }
-    ensures { IfOk result (λ others. AreEntries (restricted image.now places.now) except (listed others)) }
-{
-    match narrow_part(alloc, image, places, except)? {
-        Some(part) => Ok(Others::Narrow(part)),
-        None => Ok(Others::Wide(part_entries(alloc, image, places, except)?)),
-    }
-}
-
-// The same as entries of 64 bits, where all are.
-fn narrow_part(
-    alloc: Global,
-    image: &[Fixed],
-    places: &[u32],
-    except: usize,
-) -> Result<Option<Vec<NarrowEntry>>, AllocError>
-    requires { IsRising 0 (length image.now) places.now }
-    ensures { IfOk result (λ o. IfSome o (λ part. AreEntries (restricted image.now places.now) except (map widened part.items))) }
-{
-    let mut part = Vec::with_capacity(alloc, places.len())?;
-    for listed in places {
-        let place = *listed as usize;
-        let value = image[place];
-        if value.raw != 0 && place != except {
-            let Ok(raw) = i64::try_from(value.raw) else {
-                return Ok(None);
-            };
-            part.push(NarrowEntry {
-                raw,
-                place: *listed,
-            })?;
-        }
-    }
-    Ok(Some(part))
-}
-
-// The same as entries of any numbers.
-fn part_entries(
-    alloc: Global,
-    image: &[Fixed],
-    places: &[u32],
-    except: usize,
-) -> Result<Vec<Entry>, AllocError>
-    requires { IsRising 0 (length image.now) places.now }
-    ensures { IfOk result (λ part. AreEntries (restricted image.now places.now) except part.items) }
-{
-    let mut part = Vec::with_capacity(alloc, places.len())?;
-    for listed in places {
-        let place = *listed as usize;
-        let value = image[place];
-        if value.raw != 0 && place != except {
-            part.push(Entry {
-                value,
-                place: *listed,
-            })?;
-        }
-    }
-    Ok(part)
-}
-
-// The factor that clears the open places but one of an image, whose entries at `place` and `row` have changed places.
-// The given places are open ones.
-fn lower_factor(
-    alloc: Global,
-    image: &[Fixed],
-    places: &[u32],
-    place: usize,
-    row: usize,
-) -> Result<Eta, AllocError>
-    requires short { length image.now < 2 ^ 32 }
-    requires rising { IsRising 0 (length image.now) places.now }
-    requires place_in { place < length image.now }
-    requires row_in { row < length image.now }
-    requires pivot { IsPivot (at image.now place) }
-    ensures { IfOk result (IsEta (length image.now)) }
-{
-    let others = part_others(alloc, image, places, place)?;
-    Ok(Eta {
-        place: place as u32,
-        row: row as u32,
-        pivot: image[place],
-        reciprocal: division::reciprocal_of(image[place]),
-        others,
-    })
 }
 
 // The factor that clears the closed places, which are given.
@@ -298,7 +208,7 @@ fn upper_factor(
     requires place_in { place < length image.now }
     ensures { IfOk result (IsEta (length image.now)) }
 {
-    let others = part_others(alloc, image, places, place)?;
+    let others = Others::of_column(alloc, image, places, place)?;
     Ok(Eta {
         place: place as u32,
         row: place as u32,
@@ -310,7 +220,8 @@ fn upper_factor(
 
 // Adds a factor with the pivot 1, unless it has nothing else.
 fn push_unless_unit(etas: &mut Vec<Eta>, eta: Eta) -> Result<(), AllocError>
-    ensures { OnOk result ((etas.new.items ≡ etas.old.items ++ eta ∷ []) ⊎ (etas.new.items ≡ etas.old.items)) }
+    ensures { OnOk result ((etas.new.items ≡ etas.old.items ++ eta ∷ [])
+        ⊎ (etas.new.items ≡ etas.old.items)) }
 {
     if !eta.others.is_empty() {
         etas.push(eta)?;

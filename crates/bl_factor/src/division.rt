@@ -1,5 +1,7 @@
-// Quotients by a pivot, of which a reciprocal is kept: what it gives is only a guess, and is taken where the rest shows it.
-ghost use Rattle.std.specs.Prelude.{◌≡◌, ◌<◌, ◌^◌, ◌+◌, ◌*◌, IfSome, unsigned_abs, pos, negsuc, neg_ℤ, nat_eq, if◌then◌else◌};
+// Quotients by a pivot, of which a reciprocal is kept: what it gives is only a guess, and is
+// taken where the rest shows it.
+ghost use Rattle.std.specs.Prelude.{◌≡◌, ◌<◌, ◌^◌, ◌+◌, ◌*◌, IfSome, unsigned_abs, pos, negsuc};
+ghost use Rattle.std.specs.Prelude.{neg_ℤ, nat_eq, if◌then◌else◌};
 ghost use Rattle.bl_fixed.specs.Fixed.{saturated_quotient};
 ghost use Rattle.bl_factor.specs.Vectors.{IsPivot};
 ghost use Rattle.bl_factor.specs.Division.{Divides};
@@ -123,7 +125,8 @@ fn upward(division: Division) -> Fixed
 
 // Where they are not: a rest makes the quotient one less.
 fn downward(division: Division) -> Fixed
-    ensures { result.raw ≡ (if nat_eq division.rest 0 then neg_ℤ (pos division.quotient) else negsuc division.quotient) }
+    ensures { result.raw ≡ (if nat_eq division.rest 0 then neg_ℤ (pos division.quotient)
+        else negsuc division.quotient) }
 {
     let quotient = i128::from(division.quotient);
     Fixed {

@@ -2,19 +2,19 @@
 ghost use Rattle.std.specs.Prelude.{◌≡◌, ◌≢◌, ◌<◌, ◌≤◌, ◌^◌, length, pos, IfOk};
 ghost use Rattle.std.specs.List.{fold, All, swap};
 ghost use Rattle.bl_factor.specs.Vectors.{at, column_of, IsPivot};
-ghost use Rattle.bl_factor.specs.Sparse.{IsSparse, value_at};
+ghost use Rattle.bl_factor.specs.Support.{IsRising};
 ghost use Rattle.bl_factor.specs.Etas.{IsEta, AreEtas, elimination_of, eliminations};
 ghost use Rattle.bl_fixed.specs.Fixed.{saturated_difference, saturated_product, saturated_quotient};
-ghost use Rattle.bl_factor.specs.Elimination.{less_multiple, eliminated, eliminated_transposed, taken_off, image_under, transposed_image_under};
+ghost use Rattle.bl_factor.specs.Elimination.{less_multiple, eliminated, eliminated_transposed};
+ghost use Rattle.bl_factor.specs.Elimination.{taken_off, image_under, transposed_image_under};
 
 use crate::division::{quotient, reciprocal_of};
 use crate::others::Others;
-use crate::sparse;
 use bl_fixed::Fixed;
 use std::alloc::{AllocError, Global};
 
-/// An elementary factor: the entries at `place` and `row` change places, and then the column with `pivot` at
-/// `place` and `others` elsewhere is turned into the unit column of `place`.
+/// An elementary factor: the entries at `place` and `row` change places, and then the column
+/// with `pivot` at `place` and `others` elsewhere is turned into the unit column of `place`.
 #[derive(Drop)]
 pub(crate) struct Eta {
     // First, so that a factor has 64 bytes.
@@ -44,7 +44,8 @@ impl Eta {
 
     fn apply_transposed(&self, right: &mut [Fixed])
         requires { IsEta (length right.old) self.now }
-        ensures { right.new ≡ eliminated_transposed (elimination_of (length right.old) self.now) right.old }
+        ensures { right.new ≡ eliminated_transposed (elimination_of (length right.old) self.now)
+            right.old }
     {
         let place = self.place as usize;
         let rest = self.others.rest_after(right, right[place]);
@@ -79,28 +80,31 @@ pub(crate) fn apply_all(etas: &[Eta], right: &mut [Fixed])
 // The same by the transposes, the last first.
 pub(crate) fn apply_all_transposed(etas: &[Eta], right: &mut [Fixed])
     requires { AreEtas (length right.old) etas.now }
-    ensures { right.new ≡ transposed_image_under (eliminations (length right.old) etas.now) right.old }
+    ensures { right.new ≡ transposed_image_under (eliminations (length right.old) etas.now)
+        right.old }
 {
     for i in (0..etas.len()).rev() {
         etas[i].apply_transposed(right);
     }
 }
 
-// The factor of `column`, whose entries at `place` and `row` have changed places.
+// The factor that clears the numbers of `column` at these places, but for the pivot: its entries
+// at `place` and `row` have changed places.
 pub(crate) fn make(
     alloc: Global,
+    column: &[Fixed],
+    places: &[u32],
     place: usize,
     row: usize,
-    column: &[Fixed],
 ) -> Result<Eta, AllocError>
     requires short { length column.now < 2 ^ 32 }
+    requires rising { IsRising 0 (length column.now) places.now }
     requires place_in { place < length column.now }
     requires row_in { row < length column.now }
     requires pivot { IsPivot (at column.now place) }
     ensures { IfOk result (IsEta (length column.now)) }
 {
-    let entries = sparse::entries_of(alloc, column, place)?;
-    let others = Others::packed(alloc, entries)?;
+    let others = Others::of_column(alloc, column, places, place)?;
     Ok(Eta {
         place: place as u32,
         row: row as u32,

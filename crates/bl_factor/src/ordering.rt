@@ -1,16 +1,18 @@
-// The order in which the places of a product are closed, so that it gets few entries: the pattern of the open entries is
-// eliminated as bits, each time the column with the fewest of them, and in it the row with the fewest.
+// The order in which the places of a product are closed, so that it gets few entries: the
+// pattern of the open entries is eliminated as bits, each time the column with the fewest of
+// them, and in it the row with the fewest.
 ghost use Rattle.std.specs.Prelude.{◌≡◌, length, IfOk};
 
 use crate::pattern::Pattern;
 use crate::sparse::Entry;
 use std::alloc::{AllocError, Global};
 
-/// So many open places at most are ordered by elimination; more of them by the entries of their columns alone.
+/// So many open places at most are ordered by elimination; more of them by the entries of their
+/// columns alone.
 const MOST_ELIMINATED: usize = 4096;
 
-/// The places in their order, and a rank for each row: of rows with large enough numbers the one of the least rank is
-/// to be the pivot.
+/// The places in their order, and a rank for each row: of rows with large enough numbers the one
+/// of the least rank is to be the pivot.
 #[derive(Drop)]
 pub(crate) struct Order {
     pub places: Vec<usize>,
@@ -20,7 +22,7 @@ pub(crate) struct Order {
 // The order for these columns, of which some are open.
 pub(crate) fn order_of(
     alloc: Global,
-    columns: &[Vec<Entry>],
+    columns: &[Option<Vec<Entry>>],
     is_open: &[bool],
 ) -> Result<Order, AllocError>
     ensures { IfOk result (λ order. length order.ranks.items ≡ length columns.now) }
@@ -42,8 +44,8 @@ pub(crate) fn order_of(
 impl Order {
     ghost use Rattle.std.specs.Prelude.{◌≡◌, length};
 
-    // Orders the open places by eliminating their pattern. Once it is so full that the order makes little difference,
-    // the rest come by their counts.
+    // Orders the open places by eliminating their pattern. Once it is so full that the order
+    // makes little difference, the rest come by their counts.
     fn eliminate(
         &mut self,
         alloc: Global,
@@ -98,13 +100,12 @@ impl Order {
     }
 
     // Orders the open places by the entries of their columns.
-    fn sort(&mut self, columns: &[Vec<Entry>], open: Vec<usize>) -> Result<(), AllocError>
+    fn sort(&mut self, columns: &[Option<Vec<Entry>>], open: Vec<usize>) -> Result<(), AllocError>
         ensures { self.new.ranks ≡ self.old.ranks }
     {
         self.places = open;
-        self.places.sort_unstable_by_key(|place| columns
-            .get(*place)
-            .map_or(0, |column| column.len()));
+        self.places
+            .sort_unstable_by_key(|place| entries_at(columns, *place).len());
         Ok(())
     }
 }
@@ -125,23 +126,25 @@ fn open_of(alloc: Global, is_open: &[bool]) -> Result<Vec<usize>, AllocError> {
     Ok(open)
 }
 
+// The entries of the column of a place; none of a unit column.
+fn entries_at(columns: &[Option<Vec<Entry>>], place: usize) -> &[Entry] {
+    match columns.get(place) {
+        Some(Some(column)) => column.as_slice(),
+        _ => &[],
+    }
+}
+
 // The entries of the open columns at the open rows.
 fn pattern_of(
     alloc: Global,
-    columns: &[Vec<Entry>],
+    columns: &[Option<Vec<Entry>>],
     open: &[usize],
 ) -> Result<Pattern, AllocError> {
     let mut pattern = Pattern::new(alloc, open.len())?;
     let number_of = numbers_of(alloc, columns.len(), open)?;
     for (number, place) in open.iter().enumerate() {
-        if let Some(column) = columns.get(*place) {
-            insert_column(
-                &mut pattern,
-                number,
-                column.as_slice(),
-                number_of.as_slice(),
-            );
-        }
+        let entries = entries_at(columns, *place);
+        insert_column(&mut pattern, number, entries, number_of.as_slice());
     }
     Ok(pattern)
 }
@@ -193,8 +196,8 @@ fn numbers_below(alloc: Global, end: usize) -> Result<Vec<usize>, AllocError> {
     Ok(numbers)
 }
 
-// Takes the first column with the least count out of those that are left. None where all have entries in half of the
-// rows that are left.
+// Takes the first column with the least count out of those that are left. None where all have
+// entries in half of the rows that are left.
 fn take_sparsest(left: &mut Vec<usize>, counts: &[u32], least: u32) -> Option<usize> {
     let position = position_of_least(left.as_slice(), counts, least)?;
     let column = *left.get(position)?;
@@ -210,7 +213,8 @@ fn least_of(numbers: &[usize], counts: &[u32]) -> Option<usize> {
     numbers.get(position).copied()
 }
 
-// Where the first with the least count stands among these numbers. None is looked for after one of at most `enough`.
+// Where the first with the least count stands among these numbers. None is looked for after one
+// of at most `enough`.
 fn position_of_least(numbers: &[usize], counts: &[u32], enough: u32) -> Option<usize> {
     let mut best = None;
     let mut fewest = u32::MAX;

@@ -1,7 +1,10 @@
-// The entries of an elementary factor beside its pivot. In most factors all of them are of 64 bits, and are kept as such.
-ghost use Rattle.std.specs.Prelude.{◌≡◌, ◌<◌, ◌≤◌, ◌^◌, [], length, map, unsigned_abs, ◌*ℤ◌, IfOk, IfSome, IsTrue};
+// The entries of an elementary factor beside its pivot. In most factors all of them are of 64
+// bits, and are kept as such.
+ghost use Rattle.std.specs.Prelude.{◌≡◌, ◌<◌, ◌≤◌, ◌^◌, [], length, map, unsigned_abs, ◌*ℤ◌};
+ghost use Rattle.std.specs.Prelude.{IfOk, IfSome, IsTrue};
 ghost use Rattle.bl_factor.specs.Vectors.{at, column_of};
-ghost use Rattle.bl_factor.specs.Sparse.{IsSparse, value_at};
+ghost use Rattle.bl_factor.specs.Sparse.{IsSparse, value_at, AreBeside};
+ghost use Rattle.bl_factor.specs.Support.{IsRising};
 ghost use Rattle.bl_factor.specs.Others.{narrow_number, widened, listed};
 ghost use Rattle.bl_fixed.specs.Fixed.{saturated_difference, saturated_product};
 ghost use Rattle.bl_factor.specs.Elimination.{less_multiple, taken_off};
@@ -33,16 +36,24 @@ pub(crate) enum Others {
 impl Others {
     ghost use Rattle.std.specs.Prelude.{◌≡◌, [], length, IfOk, IsTrue};
     ghost use Rattle.bl_factor.specs.Vectors.{at, column_of};
-    ghost use Rattle.bl_factor.specs.Sparse.{IsSparse, value_at};
+    ghost use Rattle.bl_factor.specs.Sparse.{IsSparse, value_at, AreBeside};
+    ghost use Rattle.bl_factor.specs.Support.{IsRising};
     ghost use Rattle.bl_factor.specs.Others.{listed};
     ghost use Rattle.bl_factor.specs.Elimination.{less_multiple, taken_off};
 
-    pub(crate) fn packed(alloc: Global, entries: Vec<Entry>) -> Result<Others, AllocError>
-        ensures { IfOk result (λ others. listed others ≡ entries.items) }
+    // The numbers of `column` at these places that are not 0, but for the one at `except`.
+    pub(crate) fn of_column(
+        alloc: Global,
+        column: &[Fixed],
+        places: &[u32],
+        except: usize,
+    ) -> Result<Others, AllocError>
+        requires { IsRising 0 (length column.now) places.now }
+        ensures { IfOk result (λ others. AreBeside (length column.now) except (listed others)) }
     {
-        match narrowed(alloc, entries.as_slice())? {
-            Some(narrow) => Ok(Others::Narrow(narrow)),
-            None => Ok(Others::Wide(entries)),
+        match narrow_entries(alloc, column, places, except)? {
+            Some(entries) => Ok(Others::Narrow(entries)),
+            None => Ok(Others::Wide(wide_entries(alloc, column, places, except)?)),
         }
     }
 
@@ -65,7 +76,8 @@ impl Others {
     // Takes off the entries' multiples.
     pub(crate) fn subtract(&self, right: &mut [Fixed], factor: Fixed)
         requires { IsSparse 0 (length right.old) (listed self.now) }
-        ensures { right.new ≡ column_of (length right.old) (λ i. less_multiple (at right.old i) (value_at (listed self.now) i) factor) }
+        ensures { right.new ≡ column_of (length right.old)
+            (λ i. less_multiple (at right.old i) (value_at (listed self.now) i) factor) }
     {
         match self {
             Others::Narrow(entries) => subtract_narrow(right, entries.as_slice(), factor),
@@ -76,7 +88,8 @@ impl Others {
     // What is left of `start` after the products of the entries and those of `right`.
     pub(crate) fn rest_after(&self, right: &[Fixed], start: Fixed) -> Fixed
         requires { IsSparse 0 (length right.now) (listed self.now) }
-        ensures { result ≡ taken_off (value_at (listed self.now)) right.now 0 (length right.now) start }
+        ensures { result ≡ taken_off (value_at (listed self.now)) right.now 0 (length right.now)
+            start }
     {
         match self {
             Others::Narrow(entries) => rest_narrow(right, entries.as_slice(), start),
@@ -85,21 +98,56 @@ impl Others {
     }
 }
 
-// The entries as ones of 64 bits, where all are.
-fn narrowed(alloc: Global, entries: &[Entry]) -> Result<Option<Vec<NarrowEntry>>, AllocError>
-    ensures { IfOk result (λ o. IfSome o (λ narrow. map widened narrow.items ≡ entries.now)) }
+// The numbers as entries of 64 bits, where all are.
+fn narrow_entries(
+    alloc: Global,
+    column: &[Fixed],
+    places: &[u32],
+    except: usize,
+) -> Result<Option<Vec<NarrowEntry>>, AllocError>
+    requires { IsRising 0 (length column.now) places.now }
+    ensures { IfOk result (λ o. IfSome o
+        (λ entries. AreBeside (length column.now) except (map widened entries.items))) }
 {
-    let mut narrow = Vec::with_capacity(alloc, entries.len())?;
-    for entry in entries {
-        let Ok(raw) = i64::try_from(entry.value.raw) else {
-            return Ok(None);
-        };
-        narrow.push(NarrowEntry {
-            raw,
-            place: entry.place,
-        })?;
+    let mut entries = Vec::with_capacity(alloc, places.len())?;
+    for listed in places {
+        let place = *listed as usize;
+        let value = column[place];
+        if value.raw != 0 && place != except {
+            let Ok(raw) = i64::try_from(value.raw) else {
+                return Ok(None);
+            };
+            entries.push(NarrowEntry {
+                raw,
+                place: *listed,
+            })?;
+        }
     }
-    Ok(Some(narrow))
+    Ok(Some(entries))
+}
+
+// The same as entries of any numbers.
+fn wide_entries(
+    alloc: Global,
+    column: &[Fixed],
+    places: &[u32],
+    except: usize,
+) -> Result<Vec<Entry>, AllocError>
+    requires { IsRising 0 (length column.now) places.now }
+    ensures { IfOk result (λ entries. AreBeside (length column.now) except entries.items) }
+{
+    let mut entries = Vec::with_capacity(alloc, places.len())?;
+    for listed in places {
+        let place = *listed as usize;
+        let value = column[place];
+        if value.raw != 0 && place != except {
+            entries.push(Entry {
+                value,
+                place: *listed,
+            })?;
+        }
+    }
+    Ok(entries)
 }
 
 // ---- entries of any numbers
@@ -107,7 +155,8 @@ fn narrowed(alloc: Global, entries: &[Entry]) -> Result<Option<Vec<NarrowEntry>>
 // Takes off the entries' multiples.
 fn subtract_multiple(right: &mut [Fixed], entries: &[Entry], factor: Fixed)
     requires { IsSparse 0 (length right.old) entries.now }
-    ensures { right.new ≡ column_of (length right.old) (λ i. less_multiple (at right.old i) (value_at entries.now i) factor) }
+    ensures { right.new ≡ column_of (length right.old)
+        (λ i. less_multiple (at right.old i) (value_at entries.now i) factor) }
 {
     for entry in entries {
         let number = &mut right[entry.place as usize];
@@ -143,7 +192,8 @@ fn less_product(number: Fixed, a: Fixed, b: Fixed) -> Fixed
 // Takes off the entries' multiples.
 fn subtract_narrow(right: &mut [Fixed], entries: &[NarrowEntry], factor: Fixed)
     requires { IsSparse 0 (length right.old) (map widened entries.now) }
-    ensures { right.new ≡ column_of (length right.old) (λ i. less_multiple (at right.old i) (value_at (map widened entries.now) i) factor) }
+    ensures { right.new ≡ column_of (length right.old)
+        (λ i. less_multiple (at right.old i) (value_at (map widened entries.now) i) factor) }
 {
     match i64::try_from(factor.raw) {
         Ok(narrow) => subtract_by_narrow(right, entries, narrow),
@@ -151,11 +201,14 @@ fn subtract_narrow(right: &mut [Fixed], entries: &[NarrowEntry], factor: Fixed)
     }
 }
 
-// The multiples by a factor of 64 bits. Where this is not a call of its own, LLVM takes the factor for a wide one again.
+// The multiples by a factor of 64 bits. Where this is not a call of its own, LLVM takes the
+// factor for a wide one again.
 #[inline(never)]
 fn subtract_by_narrow(right: &mut [Fixed], entries: &[NarrowEntry], factor: i64)
     requires { IsSparse 0 (length right.old) (map widened entries.now) }
-    ensures { right.new ≡ column_of (length right.old) (λ i. less_multiple (at right.old i) (value_at (map widened entries.now) i) (narrow_number factor)) }
+    ensures { right.new ≡ column_of (length right.old)
+        (λ i. less_multiple (at right.old i) (value_at (map widened entries.now) i)
+        (narrow_number factor)) }
 {
     for entry in entries {
         let number = &mut right[entry.place as usize];
@@ -167,7 +220,8 @@ fn subtract_by_narrow(right: &mut [Fixed], entries: &[NarrowEntry], factor: i64)
 #[inline(never)]
 fn subtract_by_wide(right: &mut [Fixed], entries: &[NarrowEntry], factor: Fixed)
     requires { IsSparse 0 (length right.old) (map widened entries.now) }
-    ensures { right.new ≡ column_of (length right.old) (λ i. less_multiple (at right.old i) (value_at (map widened entries.now) i) factor) }
+    ensures { right.new ≡ column_of (length right.old)
+        (λ i. less_multiple (at right.old i) (value_at (map widened entries.now) i) factor) }
 {
     for entry in entries {
         let number = &mut right[entry.place as usize];
@@ -178,7 +232,8 @@ fn subtract_by_wide(right: &mut [Fixed], entries: &[NarrowEntry], factor: Fixed)
 // What is left of `start` after the products of the entries and those of `right`.
 fn rest_narrow(right: &[Fixed], entries: &[NarrowEntry], start: Fixed) -> Fixed
     requires { IsSparse 0 (length right.now) (map widened entries.now) }
-    ensures { result ≡ taken_off (value_at (map widened entries.now)) right.now 0 (length right.now) start }
+    ensures { result ≡ taken_off (value_at (map widened entries.now)) right.now 0
+        (length right.now) start }
 {
     let mut rest = start;
     for entry in entries {
@@ -208,9 +263,11 @@ fn wide(raw: i64) -> Fixed
     }
 }
 
-// The number less a product of two numbers of 64 bits. An `i128` holds the product, and mostly the difference too.
+// The number less a product of two numbers of 64 bits. An `i128` holds the product, and mostly
+// the difference too.
 fn less_narrow(number: Fixed, a: i64, b: i64) -> Fixed
-    ensures { result ≡ saturated_difference number (saturated_product (narrow_number a) (narrow_number b)) }
+    ensures { result ≡ saturated_difference number
+        (saturated_product (narrow_number a) (narrow_number b)) }
 {
     let product = narrow_product(a, b);
     if -MODERATE <= number.raw && number.raw < MODERATE {

@@ -60,8 +60,8 @@ impl Lines {
         self.bits.get(index).copied().unwrap_or(0)
     }
 
-    // Takes a place out of a line and out of the others that have it, which get the bits that are left in the line. The
-    // line counts no longer.
+    // Takes a place out of a line and out of the others that have it, which get the bits that
+    // are left in the line. The line counts no longer.
     fn eliminate(&mut self, line: usize, place: usize, others: &[usize]) {
         self.clear(line, place);
         copy_line(
@@ -145,8 +145,8 @@ impl Pattern {
         self.columns.insert(column, row);
     }
 
-    // Takes out a row and a column, of which the members are given, and gives the other rows of the column the
-    // entries of the row.
+    // Takes out a row and a column, of which the members are given, and gives the other rows of
+    // the column the entries of the row.
     pub(crate) fn eliminate(
         &mut self,
         row: usize,

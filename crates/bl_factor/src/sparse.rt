@@ -1,6 +1,5 @@
 // Columns without their zeros.
 ghost use Rattle.std.specs.Prelude.{◌≡◌, ◌<◌, ◌≤◌, ◌^◌, length, IfOk, IsTrue, [], ◌∷◌};
-ghost use Rattle.bl_factor.specs.Vectors.{unity};
 ghost use Rattle.bl_factor.specs.Sparse.{IsSparse, dense, AreEntries};
 
 use bl_fixed::Fixed;
@@ -14,26 +13,14 @@ pub struct Entry {
     pub place: u32,
 }
 
-// The unit column of a place.
-pub(crate) fn unit(alloc: Global, place: u32) -> Result<Vec<Entry>, AllocError>
-    ensures { IfOk result (λ entries. entries.items ≡ record { place = place; value = unity } ∷ []) }
-{
-    let value = bl_fixed::from_int(1);
-    Ok(vec![in alloc; Entry { place, value }]?)
-}
-
-// The entries of `column`, but for the one at `except`.
-pub(crate) fn entries_of(
-    alloc: Global,
-    column: &[Fixed],
-    except: usize,
-) -> Result<Vec<Entry>, AllocError>
+// The entries of `column`.
+pub(crate) fn entries_of(alloc: Global, column: &[Fixed]) -> Result<Vec<Entry>, AllocError>
     requires { length column.now < 2 ^ 32 }
-    ensures { IfOk result (λ entries. AreEntries column.now except entries.items) }
+    ensures { IfOk result (λ entries. AreEntries column.now entries.items) }
 {
     let mut entries = Vec::with_capacity(alloc, filled_count(column))?;
     for (place, value) in column.iter().enumerate() {
-        if value.raw != 0 && place != except {
+        if value.raw != 0 {
             entries.push(Entry {
                 place: place as u32,
                 value: *value,
@@ -60,14 +47,6 @@ pub(crate) fn spread(entries: &[Entry], column: &mut [Fixed])
     column.fill(Fixed { raw: 0 });
     for entry in entries {
         column[entry.place as usize] = entry.value;
-    }
-}
-
-// Whether these are the entries of the unit column of that place.
-pub(crate) fn is_unit(entries: &[Entry], place: usize) -> bool {
-    match entries {
-        [only] => only.place as usize == place && only.value == bl_fixed::from_int(1),
-        _ => false,
     }
 }
 

@@ -1,8 +1,9 @@
 // Where a column has numbers that are not 0.
-ghost use Rattle.std.specs.Prelude.{◌≡◌, ◌<◌, ◌≤◌, ◌^◌, length, take};
+ghost use Rattle.std.specs.Prelude.{◌≡◌, ◌<◌, ◌≤◌, ◌^◌, length, take, IfOk};
 ghost use Rattle.bl_factor.specs.Support.{IsRising};
 
 use bl_fixed::Fixed;
+use std::alloc::{AllocError, Global};
 
 // How many places with either flag there are.
 #[derive(Clone, Copy)]
@@ -11,8 +12,9 @@ pub(crate) struct Counts {
     pub others: usize,
 }
 
-// Writes the places of the numbers that are not 0 to the fronts of two lists, by their flags. There is no branch, as which
-// numbers are 0 can't be foreseen. A call of its own: inlined, its loop runs short of registers.
+// Writes the places of the numbers that are not 0 to the fronts of two lists, by their flags.
+// There is no branch, as which numbers are 0 can't be foreseen. A call of its own: inlined, its
+// loop runs short of registers.
 #[inline(never)]
 pub(crate) fn support_of(
     column: &[Fixed],
@@ -42,4 +44,18 @@ pub(crate) fn support_of(
         flagged: count,
         others: filled - count,
     }
+}
+
+// The places of the numbers that are not 0.
+pub(crate) fn places_of(alloc: Global, column: &[Fixed]) -> Result<Vec<u32>, AllocError>
+    requires { length column.now < 2 ^ 32 }
+    ensures { IfOk result (λ places. IsRising 0 (length column.now) places.items) }
+{
+    let mut places = Vec::with_capacity(alloc, column.len())?;
+    for (place, number) in column.iter().enumerate() {
+        if number.raw != 0 {
+            places.push(place as u32)?;
+        }
+    }
+    Ok(places)
 }

@@ -18,11 +18,7 @@ fn try_replace(factor: &mut Factor, place: u32, column: &[Fixed; 2]) -> Result<b
     if image[place as usize].raw.unsigned_abs() < 1 << 20 {
         return Ok(false);
     }
-    if place == 0 {
-        factor.replace(place, column)?;
-    } else {
-        factor.replace_solved(place, column, &image)?;
-    }
+    factor.replace(place, column)?;
     Ok(true)
 }
 
@@ -62,8 +58,8 @@ fn two_columns(alloc: Global, places: (u32, u32)) -> Result<Option<Factor>, Allo
     ensures { IfOk result (λ made. IfSome made (λ factor. size_of factor ≡ 2)) }
 {
     let mut columns = Vec::new(alloc);
-    columns.push(column_with(alloc, places.0, Fixed { raw: 1 << 41 })?)?;
-    columns.push(column_with(alloc, places.1, Fixed { raw: 1 << 42 })?)?;
+    columns.push(Some(column_with(alloc, places.0, Fixed { raw: 1 << 41 })?))?;
+    columns.push(Some(column_with(alloc, places.1, Fixed { raw: 1 << 42 })?))?;
     Factor::from_columns(alloc, columns)
 }
 

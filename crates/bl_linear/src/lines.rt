@@ -76,7 +76,8 @@ impl Lines {
         self.coefficients.as_slice().get(start..end).unwrap_or(&[])
     }
 
-    // The same coefficients with lines and places exchanged; `first` is the place of the first line.
+    // The same coefficients with lines and places exchanged; `first` is the place of the first
+    // line.
     pub fn transposed(
         &self,
         alloc: Global,
@@ -127,7 +128,8 @@ fn starts_of(
     Ok(starts)
 }
 
-// Puts each coefficient of a line, which gets that place, into the next position of its own new line.
+// Puts each coefficient of a line, which gets that place, into the next position of its own new
+// line.
 fn deal(line: &[Coefficient], place: usize, next: &mut [usize], to: &mut [Coefficient]) {
     let place = u32::try_from(place).unwrap_or(u32::MAX);
     for coefficient in line {

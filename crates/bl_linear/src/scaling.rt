@@ -70,8 +70,8 @@ pub fn column_exponents(
     Ok(columns)
 }
 
-// Puts the middle of each row's exponents at 0, and then that of each column's. `spreads` is for its
-// work.
+// Puts the middle of each row's exponents at 0, and then that of each column's. `spreads` is for
+// its work.
 fn even_out(lines: &Lines, columns: &mut [i32], spreads: &mut [Spread]) {
     spreads.fill(Spread::NONE);
     for row in 0..lines.len() {

@@ -1,7 +1,6 @@
 // A basis: for each place the item that is basic there, and the factor of these items' columns.
-ghost use Rattle.std.specs.Prelude.{◌≡◌, ◌<◌, ◌≤◌, ◌^◌, length, All, IfOk, IfSome};
-ghost use Rattle.bl_factor.specs.Sparse.{IsSparse};
-ghost use Rattle.bl_factor.specs.Factored.{size_of};
+ghost use Rattle.std.specs.Prelude.{◌≡◌, ◌<◌, ◌≤◌, ◌^◌, length, IfOk, IfSome};
+ghost use Rattle.bl_factor.specs.Sparse.{IsSparse, AreColumns};
 
 use bl_desc::Status;
 use bl_factor::{Entry, Factor};
@@ -13,7 +12,8 @@ use std::alloc::{AllocError, Global};
 /// A pivot of a smaller raw size is not taken.
 pub const LEAST_PIVOT: u128 = 1 << 20;
 
-/// By so many units, and by so many bits less than the pivot, a row's and a column's pivot may differ.
+/// By so many units, and by so many bits less than the pivot, a row's and a column's pivot may
+/// differ.
 const MOST_DIFFERENCE: i128 = 1 << 12;
 
 const DIFFERENCE_BITS: u32 = 20;
@@ -23,9 +23,9 @@ const MOST_ROWS: usize = 1 << 20;
 
 #[derive(Drop)]
 pub struct Basis {
+    alloc: Global,
     factor: Factor,
     heads: Vec<u32>,
-    ghost square: { size_of factor ≡ length heads.items },
 }
 
 impl Basis {
@@ -33,7 +33,11 @@ impl Basis {
     pub fn of_activities(alloc: Global, form: &Form<'_>) -> Result<Basis, AllocError> {
         let heads = activities(alloc, form)?;
         let factor = Factor::identity(alloc, heads.len() as u32)?;
-        Ok(Basis { factor, heads })
+        Ok(Basis {
+            alloc,
+            factor,
+            heads,
+        })
     }
 
     // The basis of the items that are Basic, where these are as many as there are rows and cuts
@@ -48,18 +52,22 @@ impl Basis {
         };
         let columns = columns_of(alloc, form, heads.as_slice())?;
         match Factor::from_columns(alloc, columns)? {
-            Some(factor) => Ok(Some(Basis { factor, heads })),
+            Some(factor) => Ok(Some(Basis {
+                alloc,
+                factor,
+                heads,
+            })),
             None => Ok(None),
         }
     }
 
     // Makes the factor anew from the columns of the items; whether it could.
-    pub fn renew(&mut self, alloc: Global, form: &Form<'_>) -> Result<bool, AllocError> {
+    pub fn renew(&mut self, form: &Form<'_>) -> Result<bool, AllocError> {
         if MOST_ROWS < self.heads.len() {
             return Ok(false);
         }
-        let columns = columns_of(alloc, form, self.heads.as_slice())?;
-        let Some(factor) = Factor::from_columns(alloc, columns)? else {
+        let columns = columns_of(self.alloc, form, self.heads.as_slice())?;
+        let Some(factor) = Factor::from_columns(self.alloc, columns)? else {
             return Ok(false);
         };
         self.factor = factor;
@@ -78,7 +86,7 @@ impl Basis {
 
     // Leaves in `right`, which has one entry per row, its image, which has one per place.
     pub fn solve(&self, right: &mut [Fixed]) -> Result<(), AllocError> {
-        if right.len() == self.heads.len() {
+        if right.len() == self.factor.size() {
             self.factor.solve(right)?;
         }
         Ok(())
@@ -87,7 +95,7 @@ impl Basis {
     // The same for the transposed matrix: `right` has one entry per place, and its image one per
     // row.
     pub fn solve_transposed(&self, right: &mut [Fixed]) -> Result<(), AllocError> {
-        if right.len() == self.heads.len() {
+        if right.len() == self.factor.size() {
             self.factor.solve_transposed(right)?;
         }
         Ok(())
@@ -97,27 +105,30 @@ impl Basis {
     // the pivot there is too small, or is not the one that the row has. Whether it did.
     pub fn enter(
         &mut self,
+        form: &Form<'_>,
         place: usize,
         item: usize,
-        column: &[Fixed],
         image: &mut [Fixed],
         pivot: Option<Fixed>,
     ) -> Result<bool, AllocError> {
-        let size = self.heads.len();
-        if size <= place || column.len() != size || image.len() != size {
+        let size = self.factor.size();
+        if size <= place || image.len() != size {
             return Ok(false);
         }
         let (Ok(number), Ok(head)) = (u32::try_from(place), u32::try_from(item)) else {
             return Ok(false);
         };
-        image.copy_from_slice(column);
+        form.spread_column(item, image);
         self.factor.solve(image)?;
         drop_noise(image);
         if image[place].raw.unsigned_abs() < LEAST_PIVOT || differs(image[place], pivot) {
             return Ok(false);
         }
-        self.factor.replace_solved(number, column, image)?;
-        self.heads[place] = head;
+        let entries = entries_of(self.alloc, form, item, size)?;
+        self.factor.replace_solved(number, entries, image)?;
+        if let Some(slot) = self.heads.get_mut(place) {
+            *slot = head;
+        }
         Ok(true)
     }
 }
@@ -186,26 +197,35 @@ fn next_basic(status: &[Status], from: usize) -> usize {
     status.len()
 }
 
-// The columns of these items.
-fn columns_of(alloc: Global, form: &Form<'_>, heads: &[u32]) -> Result<Vec<Vec<Entry>>, AllocError>
+// The columns of these items; None for an activity's at its own place.
+fn columns_of(
+    alloc: Global,
+    form: &Form<'_>,
+    heads: &[u32],
+) -> Result<Vec<Option<Vec<Entry>>>, AllocError>
     ensures length { IfOk result (λ columns. length columns.items ≡ length heads.now) }
-    ensures sparse { IfOk result (λ columns. All (λ c. IsSparse 0 (length heads.now) c.items) columns.items) }
+    ensures sparse { IfOk result (λ columns. AreColumns (length heads.now) columns.items) }
 {
     let mut columns = Vec::with_capacity(alloc, heads.len())?;
-    for head in heads {
-        columns.push(column_of(alloc, form, *head as usize, heads.len())?)?;
+    for (place, head) in heads.iter().enumerate() {
+        let item = *head as usize;
+        if item == form.activity(place) {
+            columns.push(None)?;
+        } else {
+            columns.push(Some(entries_of(alloc, form, item, heads.len())?))?;
+        }
     }
     Ok(columns)
 }
 
 // The column of an item: an activity's is a unit column, a column's has its coefficients, negated.
-fn column_of(
+fn entries_of(
     alloc: Global,
     form: &Form<'_>,
     item: usize,
     size: usize,
 ) -> Result<Vec<Entry>, AllocError>
-    ensures { IfOk result (λ column. IsSparse 0 size column.items) }
+    ensures { IfOk result (λ entries. IsSparse 0 size entries.items) }
 {
     match item.checked_sub(form.width) {
         Some(row) => unit_column(alloc, row, size),

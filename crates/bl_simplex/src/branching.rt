@@ -243,7 +243,8 @@ pub fn weigh_columns(
 
 // The column of a place, where its entry is not whole.
 fn tried_at(simplex: &Simplex<'_>, place: usize, point: &[Fixed], height: usize) -> Option<Tried>
-    ensures { IfSome result (λ t. (t.column < length point.now) × (t.columns ≡ length point.now) × (t.height ≡ height)) }
+    ensures { IfSome result (λ t. (t.column < length point.now) × (t.columns ≡ length point.now)
+        × (t.height ≡ height)) }
 {
     let column = simplex.basis.head(place);
     let entry = *point.get(column as usize)?;

@@ -1,5 +1,6 @@
 //! Proposals.
-ghost use Rattle.std.specs.Prelude.{◌≡◌, ◌+◌, ◌<◌, ◌≤◌, ◌^◌, ◌≤ℤ◌, length, pos, All, IfOk, IfSome, unsigned_abs};
+ghost use Rattle.std.specs.Prelude.{◌≡◌, ◌+◌, ◌<◌, ◌≤◌, ◌^◌, ◌≤ℤ◌, length, pos, All, IfOk};
+ghost use Rattle.std.specs.Prelude.{IfSome, unsigned_abs};
 ghost use Rattle.bl_problem.specs.Sums.{IsWithin};
 ghost use Rattle.bl_simplex.specs.Sides.{IsChoice, IsSideProposal};
 
@@ -38,9 +39,9 @@ pub struct Proposal {
 }
 
 /// Runs the dual simplex method on the description's box, rows and cuts, at most that many pivots.
-/// It begins with the basis that the statuses show where exactly as many are Basic as there are rows
-/// and cuts and a factor of it can be made, else with that of all rows and cuts. `AllocError` where
-/// there is no memory.
+/// It begins with the basis that the statuses show where exactly as many are Basic as there are
+/// rows and cuts and a factor of it can be made, else with that of all rows and cuts.
+/// `AllocError` where there is no memory.
 pub fn propose(
     alloc: Global,
     problem: &Problem,
@@ -48,14 +49,17 @@ pub fn propose(
     pivots: u32,
 ) -> Result<Proposal, AllocError>
     requires few { length desc.now.cuts ≤ 200 }
-    ensures multipliers { IfOk result (λ p. length p.y ≡ length problem.now.rows + length desc.now.cuts) }
+    ensures multipliers { IfOk result (λ p. length p.y ≡ length problem.now.rows
+        + length desc.now.cuts) }
     ensures near_multipliers { IfOk result (λ p. All (IsWithin (2 ^ 40)) p.y) }
     ensures positive { IfOk result (λ p. pos 1 ≤ℤ p.d) }
     ensures short { IfOk result (λ p. p.d ≤ℤ pos (2 ^ 20)) }
     ensures point { IfOk result (λ p. length p.point ≡ length problem.now.columns) }
     ensures near_point { IfOk result (λ p. All (λ x. unsigned_abs x.raw ≤ 2 ^ 70) p.point) }
     ensures branch { IfOk result (λ p. IfSome p.branch (λ c. c < length problem.now.columns)) }
-    ensures sides { IfOk result (λ p. All (IsSideProposal (length problem.now.columns) (length problem.now.rows + length desc.now.cuts)) p.sides) }
+    ensures sides { IfOk result (λ p. All
+        (IsSideProposal (length problem.now.columns)
+        (length problem.now.rows + length desc.now.cuts)) p.sides) }
     ensures columns { IfOk result (λ p. length p.column_status ≡ length problem.now.columns) }
     ensures rows { IfOk result (λ p. length p.row_status ≡ length problem.now.rows) }
     ensures cuts { IfOk result (λ p. length p.cut_status ≡ length desc.now.cuts) }
@@ -66,8 +70,8 @@ pub fn propose(
 }
 
 /// The same with what was prepared for the problem. Where a cutoff is given, in the problem's units
-/// of value, and the method comes to an optimum below it, the proposal has multipliers too for sides
-/// of fractional columns whose penalties reach the cutoff.
+/// of value, and the method comes to an optimum below it, the proposal has multipliers too for
+/// sides of fractional columns whose penalties reach the cutoff.
 pub fn propose_below(
     alloc: Global,
     problem: &Problem,
@@ -77,14 +81,17 @@ pub fn propose_below(
     cutoff: Option<i128>,
 ) -> Result<Proposal, AllocError>
     requires few { length desc.now.cuts ≤ 200 }
-    ensures multipliers { IfOk result (λ p. length p.y ≡ length problem.now.rows + length desc.now.cuts) }
+    ensures multipliers { IfOk result (λ p. length p.y ≡ length problem.now.rows
+        + length desc.now.cuts) }
     ensures near_multipliers { IfOk result (λ p. All (IsWithin (2 ^ 40)) p.y) }
     ensures positive { IfOk result (λ p. pos 1 ≤ℤ p.d) }
     ensures short { IfOk result (λ p. p.d ≤ℤ pos (2 ^ 20)) }
     ensures point { IfOk result (λ p. length p.point ≡ length problem.now.columns) }
     ensures near_point { IfOk result (λ p. All (λ x. unsigned_abs x.raw ≤ 2 ^ 70) p.point) }
     ensures branch { IfOk result (λ p. IfSome p.branch (λ c. c < length problem.now.columns)) }
-    ensures sides { IfOk result (λ p. All (IsSideProposal (length problem.now.columns) (length problem.now.rows + length desc.now.cuts)) p.sides) }
+    ensures sides { IfOk result (λ p. All
+        (IsSideProposal (length problem.now.columns)
+        (length problem.now.rows + length desc.now.cuts)) p.sides) }
     ensures columns { IfOk result (λ p. length p.column_status ≡ length problem.now.columns) }
     ensures rows { IfOk result (λ p. length p.row_status ≡ length problem.now.rows) }
     ensures cuts { IfOk result (λ p. length p.cut_status ≡ length desc.now.cuts) }

@@ -29,9 +29,9 @@ impl Candidate {
     }
 }
 
-// Lists the items that may enter where the leaving item's value rises, or falls. The reduced cost of
-// an activity that stands at an end which is not its row's own is taken for 0; whether that changed
-// one.
+// Lists the items that may enter where the leaving item's value rises, or falls. The reduced
+// cost of an activity that stands at an end which is not its row's own is taken for 0; whether
+// that changed one.
 pub fn list_candidates(
     form: &Form<'_>,
     row: &PivotRow,

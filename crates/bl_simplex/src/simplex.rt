@@ -51,7 +51,6 @@ enum Step {
 
 #[derive(Drop)]
 pub struct Simplex<'a> {
-    alloc: Global,
     pub form: Form<'a>,
     pub basis: Basis,
     /// Where each item stands.
@@ -65,8 +64,9 @@ pub struct Simplex<'a> {
     pub row: PivotRow,
     pricing: Pricing,
     candidates: Vec<Candidate>,
-    // The column of the item that enters, and its image.
-    column: Vec<Fixed>,
+    // The multipliers of the rows by which reduced costs are made anew.
+    multipliers: Vec<Fixed>,
+    // The image of the column of the item that enters.
     image: Vec<Fixed>,
     stalled: usize,
     // Whether a reduced cost was taken for 0 that is not.
@@ -103,13 +103,12 @@ impl<'a> Simplex<'a> {
             reduced: Vec::from_elem(alloc, ZERO, items)?,
             pricing: Pricing::new(alloc, height)?,
             candidates: Vec::with_capacity(alloc, items)?,
-            column: Vec::from_elem(alloc, ZERO, height)?,
+            multipliers: Vec::from_elem(alloc, ZERO, height)?,
             image: Vec::from_elem(alloc, ZERO, height)?,
             stalled: 0,
             is_shifted: false,
             ends: 0,
             since_renewal: 0,
-            alloc,
         };
         simplex.refresh()?;
         Ok(simplex)
@@ -183,7 +182,7 @@ impl<'a> Simplex<'a> {
     // Makes the factor anew where the row and the column do not agree on the pivot; ends the run
     // where that was done just now.
     fn renew(&mut self) -> Result<Step, AllocError> {
-        if self.since_renewal == 0 || !self.basis.renew(self.alloc, &self.form)? {
+        if self.since_renewal == 0 || !self.basis.renew(&self.form)? {
             return Ok(Step::Ended(Ending::Stopped));
         }
         self.since_renewal = 0;
@@ -230,13 +229,11 @@ impl<'a> Simplex<'a> {
     // Exchanges the leaving item for the entering one, unless the pivot is too small. Whether it
     // did.
     fn pivot(&mut self, leaving: Leaving, entering: usize) -> Result<bool, AllocError> {
-        self.form
-            .spread_column(entering, self.column.as_mut_slice());
         let head = self.basis.head(leaving.place) as usize;
         let entered = self.basis.enter(
+            &self.form,
             leaving.place,
             entering,
-            self.column.as_slice(),
             self.image.as_mut_slice(),
             if self.since_renewal == 0 {
                 None
@@ -298,16 +295,16 @@ impl<'a> Simplex<'a> {
 
     fn refresh_costs(&mut self) -> Result<(), AllocError> {
         self.is_shifted = false;
-        let multipliers = self.column.as_mut_slice();
-        for (place, multiplier) in multipliers.iter_mut().enumerate() {
+        for (place, multiplier) in self.multipliers.iter_mut().enumerate() {
             *multiplier = self.form.cost(self.basis.head(place) as usize);
         }
-        self.basis.solve_transposed(self.column.as_mut_slice())?;
+        self.basis
+            .solve_transposed(self.multipliers.as_mut_slice())?;
         let reduced = self.reduced.as_mut_slice();
         for item in 0..self.form.width {
             put(reduced, item, self.form.cost(item));
         }
-        for (row, multiplier) in self.column.iter().enumerate() {
+        for (row, multiplier) in self.multipliers.iter().enumerate() {
             put(reduced, self.form.activity(row), negated(*multiplier));
             if multiplier.raw != 0 {
                 add_line(reduced, self.form.row(row), *multiplier);

@@ -1,7 +1,7 @@
-use Rattle.std.proofs.Common.{◌≡◌, ◌-◌, ◌≤◌, ◌^◌, ℕ, take, get_or, sym, ap, subst, ◌∙◌, arith, rules, FitsSigned, unsigned_abs}
+use Rattle.std.proofs.Common.{◌≡◌, ◌-◌, ◌^◌, ℕ, get_or, sym, ap, subst, ◌∙◌, arith, rules}
+use Rattle.std.proofs.Common.{FitsSigned, unsigned_abs}
 use Rattle.std.specs.Int.{w128}
 use Rattle.std.proofs.lemmas.Int.{to_z-of_z}
-use Rattle.std.proofs.lemmas.List.Elements.{All-more, All-weaker}
 use Rattle.std.specs.Prelude.{MatchOption, Option}
 use Rattle.bl_factor.specs.Vectors.{at}
 use Rattle.bl_factor.specs.Support.{IsPivotRow}
@@ -24,12 +24,17 @@ loop-listed-preserved c =
       | then-most-size w ↦
           record {
             pivot = subst (λ (o : Option ℕ). P o c.if-most-size.most) (sym w.largest-is)
-                (record { row_in = c.requires.rows k 0 h; pivot = omega (arith, v.least, w.if-most-size.true, size) });
+                (record {
+                  row_in = c.requires.rows k 0 h;
+                  pivot =
+                      omega (arith, v.least, w.if-most-size.true, size);
+                });
             least = omega (arith, v.least, w.if-most-size.true, w.most-is);
           }
       | else-most-size w ↦
           record {
-            pivot = subst (λ (o : Option ℕ). P o c.if-most-size.most) (sym w.largest-is) (subst (λ (m : ℕ). P c.loop-listed.largest m) (sym w.most-is) v.pivot);
+            pivot = subst (λ (o : Option ℕ). P o c.if-most-size.most) (sym w.largest-is)
+                (subst (λ (m : ℕ). P c.loop-listed.largest m) (sym w.most-is) v.pivot);
             least = omega (arith, v.least, w.most-is);
           }
     ]

@@ -1,7 +1,5 @@
-use Rattle.std.proofs.Common.{◌≡◌, ◌≤◌, ◌^◌, ◌-◌, take, unsigned_abs}
+use Rattle.std.proofs.Common.{◌≡◌, ◌≤◌, ◌^◌, ◌-◌}
 use Rattle.std.specs.Prelude.{MatchOption}
-use Rattle.std.specs.List.{All}
-use Rattle.bl_factor.specs.Vectors.{at}
 use Rattle.bl_factor.specs.Support.{IsPivotRow}
 use Rattle.bl_factor.proofs.anew.largest_row.Given as goal
 

@@ -7,4 +7,5 @@ pub returns-then-number-eq0 : goal.returns-then-number-eq0
 returns-then-number-eq0 c =
     let x = c.args.number in
     let f : FitsSigned w128 x.raw = search rules in
-    sym (quotient-nought x c.args.pivot (is_nought-true x (is_nought-yes x f c.if-number-eq0.true)) c.requires)
+    sym (quotient-nought x c.args.pivot
+    (is_nought-true x (is_nought-yes x f c.if-number-eq0.true)) c.requires)

@@ -5,4 +5,5 @@ use Rattle.bl_factor.specs.Etas.{elimination_of}
 use Rattle.bl_factor.proofs.eta.apply_all.Given as goal
 
 abbrev pub invariant-loop-eta : goal.invariant-loop-eta
-invariant-loop-eta l = fold (λ ys eta. eliminated (elimination_of (length l.initial.right) eta) ys) l.initial.right (take l.eta-index l.etas) ≡ l.right
+invariant-loop-eta l = fold (λ ys eta. eliminated (elimination_of (length l.initial.right) eta)
+    ys) l.initial.right (take l.eta-index l.etas) ≡ l.right

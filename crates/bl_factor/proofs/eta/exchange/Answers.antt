@@ -1,4 +1,5 @@
-use Rattle.std.proofs.Common.{◌≡◌, ◌∙◌, ap, sym, subst, set, ℕ, ℤ, inl, inr, to_z, of_z, rules, FitsSigned}
+use Rattle.std.proofs.Common.{◌≡◌, ◌∙◌, ap, sym, subst, set, ℕ, ℤ, inl, inr, to_z, of_z, rules}
+use Rattle.std.proofs.Common.{FitsSigned}
 use Rattle.std.specs.Int.{w128}
 use Rattle.std.specs.List.{swap}
 use Rattle.std.proofs.lemmas.Int.{to_z-of_z}
@@ -16,9 +17,12 @@ returns c =
     let row = c.args.row in
     let f : FitsSigned w128 (at xs i).raw = search rules in
     let g : FitsSigned w128 (at xs row).raw = search rules in
-    let x : record { raw = to_z w128 (of_z w128 (at xs i).raw) } ≡ at xs i = ap (λ (z : ℤ). record { raw = z }) (to_z-of_z w128 (at xs i).raw f) in
-    let y : record { raw = to_z w128 (of_z w128 (at xs row).raw) } ≡ at xs row = ap (λ (z : ℤ). record { raw = z }) (to_z-of_z w128 (at xs row).raw g) in
-    ap (λ (v : Fixed). set (set xs row v) i (record { raw = to_z w128 (of_z w128 (at xs row).raw) })) x
+    let x : record { raw = to_z w128 (of_z w128 (at xs i).raw) } ≡ at xs i =
+    ap (λ (z : ℤ). record { raw = z }) (to_z-of_z w128 (at xs i).raw f) in
+    let y : record { raw = to_z w128 (of_z w128 (at xs row).raw) } ≡ at xs row =
+    ap (λ (z : ℤ). record { raw = z }) (to_z-of_z w128 (at xs row).raw g) in
+    ap (λ (v : Fixed). set (set xs row v) i
+    (record { raw = to_z w128 (of_z w128 (at xs row).raw) })) x
     ∙ ap (λ (v : Fixed). set (set xs row (at xs i)) i v) y
     ∙ elim (cases_eq row i) [
       | inl p ↦

@@ -9,4 +9,5 @@ returns-then-b-eq0 c =
     let x = c.args.b in
     let f : FitsSigned w128 x.raw = search rules in
     let g : FitsSigned w128 c.args.number.raw = search rules in
-    sym (less_product-nought c.args.number (narrow_number c.args.a) x (is_nought-true x (is_nought-yes x f c.if-b-eq0.true)) g)
+    sym (less_product-nought c.args.number (narrow_number c.args.a) x
+    (is_nought-true x (is_nought-yes x f c.if-b-eq0.true)) g)

@@ -1,4 +1,5 @@
-use Rattle.std.proofs.Common.{◌≡◌, ◌<◌, ◌^◌, ◌∙◌, ap, sym, subst, ℤ, ◌*ℤ◌, to_z, of_z, FitsSigned, unsigned_abs, rules}
+use Rattle.std.proofs.Common.{◌≡◌, ◌<◌, ◌^◌, ◌∙◌, ap, sym, subst, ℤ, ◌*ℤ◌, to_z, of_z, FitsSigned}
+use Rattle.std.proofs.Common.{unsigned_abs, rules}
 use Rattle.std.specs.Int.{w64, w128}
 use Rattle.std.proofs.lemmas.Int.{to_z-of_z}
 use Rattle.bl_factor.specs.Others.{narrow_number}
@@ -14,10 +15,12 @@ returns-clause-value c =
     ∙ ap (λ (y : ℤ). y *ℤ to_z w64 (of_z w64 c.args.b)) (to_z-of_z w64 c.args.a c.ranges.a)
     ∙ ap (λ (y : ℤ). c.args.a *ℤ y) (to_z-of_z w64 c.args.b c.ranges.b) in
     ap (λ (y : ℤ). record { raw = y }) (shifted z f)
-    ∙ sym (product-small (narrow_number c.args.a) (narrow_number c.args.b) z e c.exact_product.ensures.small)
+    ∙ sym (product-small (narrow_number c.args.a) (narrow_number c.args.b) z e
+    c.exact_product.ensures.small)
 
 pub returns-clause-small : goal.returns-clause-small
 returns-clause-small c =
     let z = c.exact_product.result in
     let f : FitsSigned w128 z = search rules in
-    subst (λ (y : ℤ). unsigned_abs y < 2 ^ 126) (sym (shifted z f)) (shift-small z c.exact_product.ensures.small)
+    subst (λ (y : ℤ). unsigned_abs y < 2 ^ 126) (sym (shifted z f))
+    (shift-small z c.exact_product.ensures.small)

@@ -5,4 +5,5 @@ use Rattle.bl_factor.proofs.SparseLemmas.{less_entry}
 use Rattle.bl_factor.proofs.others.rest_narrow.Given as goal
 
 abbrev pub invariant-loop-entry : goal.invariant-loop-entry
-invariant-loop-entry l = fold (less_entry l.right) l.initial.rest (take l.entry-index (map widened l.entries)) ≡ l.rest
+invariant-loop-entry l = fold (less_entry l.right) l.initial.rest
+    (take l.entry-index (map widened l.entries)) ≡ l.rest

@@ -13,5 +13,6 @@ loop-row-preserved c =
     let f : FitsSigned w64 c.multiplier_of.result = search rules in
     record {
       long = ap length e ∙ length-append c.loop-row.y.items _ ∙ omega (arith, v.long);
-      near = all_push (IsWithin (2 ^ 40)) c.loop-row.y.items _ _ e v.near (rw (to_z-of_z w64 c.multiplier_of.result f) c.multiplier_of.ensures);
+      near = all_push (IsWithin (2 ^ 40)) c.loop-row.y.items _ _ e v.near
+          (rw (to_z-of_z w64 c.multiplier_of.result f) c.multiplier_of.ensures);
     }

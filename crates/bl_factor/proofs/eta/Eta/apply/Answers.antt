@@ -30,7 +30,8 @@ returns c =
     let f = is_nought-no (at ys eta.place) c.if-at_place-eq0.false in
     let l = cleared-eta eta ys q w f c.quotient-quotient.ensures in
     let zs = set ys eta.place q in
-    let F = λ (m : ℕ) (es : List Entry). column_of m (λ i. less_multiple (at zs i) (value_at es i) q) in
+    let F = λ (m : ℕ) (es : List Entry). column_of m
+    (λ i. less_multiple (at zs i) (value_at es i) q) in
     c.subtract.ensures
     ∙ ap (λ (m : ℕ). F m (listed eta.others)) (length-set ys eta.place q)
     ∙ l

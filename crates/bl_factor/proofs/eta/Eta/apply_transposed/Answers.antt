@@ -8,5 +8,7 @@ pub returns : goal.returns
 returns c =
     let eta = c.args.self.now in
     let xs = c.args.right.now in
-    let t = transposed-eta eta xs (listed eta.others) c.rest_after-rest.result c.requires refl c.rest_after-rest.ensures in
-    c.exchange.ensures ∙ eliminated_transposed-swap (elimination_of (length xs) eta) xs c.quotient.result (c.quotient.ensures ∙ t)
+    let t = transposed-eta eta xs (listed eta.others) c.rest_after-rest.result c.requires refl
+    c.rest_after-rest.ensures in
+    c.exchange.ensures ∙ eliminated_transposed-swap (elimination_of (length xs) eta) xs
+    c.quotient.result (c.quotient.ensures ∙ t)
