@@ -14,6 +14,7 @@ relisted_none xs = append-nil (kept_from 0 [] xs) ∙ kept_none 0 xs
 
 pub unchanged : {C : Type 0} (d : Desc C) → changed nothing d ≡ d
 unchanged {C} d =
-    let with_cuts : List C → Desc C = λ cuts. record d { cuts = cuts; cut_status = kept_from 0 [] d.cut_status ++ [] } in
+    let with_cuts : List C → Desc C =
+    λ cuts. record d { cuts = cuts; cut_status = kept_from 0 [] d.cut_status ++ [] } in
     let with_status : List Status → Desc C = λ status. record d { cut_status = status } in
     ap with_cuts (relisted_none d.cuts) ∙ ap with_status (relisted_none d.cut_status)

@@ -1,5 +1,6 @@
 -- What a change makes of a description, and the canonical difference of two.
-use Rattle.std.specs.Prelude.{◌≡◌, ℕ, ◌<◌, Bool, true, false, List, [], ◌++◌, length, replicate, All}
+use Rattle.std.specs.Prelude.{◌≡◌, ℕ, ◌<◌, Bool, true, false, List, [], ◌++◌, length, replicate}
+use Rattle.std.specs.Prelude.{All}
 use Rattle.std.specs.Ordering.{int_eq}
 use Rattle.bl_mods.specs.declared.mods.Mod.{Mod}
 use Rattle.bl_mods.specs.declared.mods.ListMods.{ListMods}
@@ -19,7 +20,15 @@ pub record IsWhole {C : Type 0} (d : Desc C) : Type 0 where
 
 -- the change of nothing
 abbrev pub nothing : {C : Type 0} → Change C
-nothing = record { lows = []; highs = []; cuts = record { dropped = []; added = [] }; columns = []; rows = []; fresh = [] }
+nothing = record {
+  lows = [];
+  highs = [];
+  cuts = record { dropped = []; added = [] };
+  columns =
+      [];
+  rows = [];
+  fresh = [];
+}
 
 -- the statuses of the cuts after some are dropped and others added
 abbrev pub cut_status_after : {C : Type 0} → ListMods C → List Status → List Status
@@ -80,5 +89,6 @@ difference id_of p c =
       cuts = list_differences id_of p.cuts c.cuts;
       columns = differences same_status p.column_status c.column_status;
       rows = differences same_status p.row_status c.row_status;
-      fresh = differences same_status (cut_status_after (list_differences id_of p.cuts c.cuts) p.cut_status) c.cut_status;
+      fresh = differences same_status
+          (cut_status_after (list_differences id_of p.cuts c.cuts) p.cut_status) c.cut_status;
     }

@@ -7,11 +7,13 @@ use Rattle.bl_desc.specs.declared.desc.Piece.TheVariants.{Explicit, Relative}
 use Rattle.bl_desc.specs.Changes.{changed}
 
 abbrev pub desc_weight_of : {C : Type 0} → Desc C → ℕ
-desc_weight_of d = length d.lows + length d.highs + length d.cuts + length d.column_status + length d.row_status + length d.cut_status
+desc_weight_of d = length d.lows + length d.highs + length d.cuts + length d.column_status
+    + length d.row_status + length d.cut_status
 
 abbrev pub change_weight_of : {C : Type 0} → Change C → ℕ
 change_weight_of c =
-    length c.lows + length c.highs + length c.cuts.dropped + length c.cuts.added + length c.columns + length c.rows + length c.fresh
+    length c.lows + length c.highs + length c.cuts.dropped + length c.cuts.added
+    + length c.columns + length c.rows + length c.fresh
 
 -- the number of entries of all lists of a piece
 abbrev pub weight_of : {C : Type 0} → Piece C → ℕ
@@ -20,7 +22,8 @@ weight_of (Relative c) = change_weight_of c
 
 -- no other change with the same effect has fewer entries
 abbrev pub IsFewest : {C : Type 0} → Change C → Desc C → Desc C → Type 0
-IsFewest {C} c p d = (other : Change C) → changed other p ≡ d → change_weight_of c ≤ change_weight_of other
+IsFewest {C} c p d = (other : Change C) → changed other p ≡ d → change_weight_of c
+    ≤ change_weight_of other
 
 pub record DescHasShortLists {C : Type 0} (d : Desc C) : Type 0 where
   pub lows : length d.lows < 2 ^ 32

@@ -1,14 +1,19 @@
 //! Changes between descriptions.
-ghost use Rattle.std.specs.Prelude.{◌≡◌, ◌≢◌, ◌<◌, ◌^◌, length, All, AllPairs, OnErr, OnOk, IfOk};
-ghost use Rattle.bl_mods.specs.Mods.{written, differences, IsPartThenFresh};
-ghost use Rattle.bl_desc.specs.Changes.{changed, difference, cut_status_after, same_status, Fits, IsWhole};
+ghost use Rattle.std.specs.Prelude.{◌≡◌, ◌≢◌, ◌<◌, ◌^◌, [], ◌∷◌, length, slice_set};
+ghost use Rattle.std.specs.Prelude.{All, AllPairs, OnErr, OnOk, IfOk};
+ghost use Rattle.std.specs.Ordering.{int_eq};
+ghost use Rattle.bl_mods.specs.InTurn.{overlaid};
+ghost use Rattle.bl_mods.specs.Mods.{written, differences, DiffersAt, IsPartThenFresh};
+ghost use Rattle.bl_desc.specs.Changes.{changed, difference, cut_status_after, same_status, Fits};
+ghost use Rattle.bl_desc.specs.Changes.{IsWhole};
 ghost use Rattle.bl_desc.specs.Weights.{IsFewest, ChangeHasShortLists};
 
 use crate::desc::{Desc, Status};
 use bl_mods::{FieldMods, Item, Items, ListMods};
 use std::alloc::{AllocError, Global};
 
-/// New lows and highs of columns; cuts that are dropped and added; new statuses of columns, rows and cuts. The places of `fresh` are those of the new list of cuts.
+/// New lows and highs of columns; cuts that are dropped and added; new statuses of columns, rows
+/// and cuts. The places of `fresh` are those of the new list of cuts.
 #[derive(Drop)]
 pub struct Change<C> {
     pub lows: FieldMods<i64>,
@@ -39,7 +44,71 @@ impl<C: Drop> Change<C> {
     }
 }
 
-/// Sets the bounds, drops cuts with their statuses, adds cuts at the end with status `AtLow`, then sets the statuses. `AllocError` where there is no memory; the description is then as it was.
+impl<C: Item + Drop> Change<C> {
+    ghost use Rattle.bl_desc.specs.Changes.{difference};
+    ghost use Rattle.bl_desc.specs.declared.desc.Desc.{Desc as AnyDesc};
+
+    /// The change with one more high. Where the change is the canonical difference from a parent
+    /// to a child, it is the one to the child with this high of the column, if the parent has
+    /// another. `AllocError` where there is no memory.
+    pub fn with_high(&self, alloc: Global, column: u32, high: i64) -> Result<Change<C>, AllocError>
+        ensures exact { IfOk result (λ change. change
+            ≡ record self.now {
+              highs = overlaid self.now.highs (record { place = column; entry = high } ∷ []);
+            }) }
+        ensures canonical { IfOk result (λ change. (parent child : AnyDesc C)
+            → self.now ≡ difference C.id_of parent child → column < length child.highs
+            → DiffersAt int_eq parent.highs column high
+            → change ≡ difference C.id_of parent
+            (record child { highs = slice_set child.highs column high })) }
+    {
+        let lows = self.lows.copy_all(alloc)?;
+        let highs = self.highs.with_entry(alloc, column, high)?;
+        self.with_bounds(alloc, lows, highs)
+    }
+
+    /// The change with one more low. Where the change is the canonical difference from a parent
+    /// to a child, it is the one to the child with this low of the column, if the parent has
+    /// another. `AllocError` where there is no memory.
+    pub fn with_low(&self, alloc: Global, column: u32, low: i64) -> Result<Change<C>, AllocError>
+        ensures exact { IfOk result (λ change. change
+            ≡ record self.now {
+              lows = overlaid self.now.lows (record { place = column; entry = low } ∷ []);
+            }) }
+        ensures canonical { IfOk result (λ change. (parent child : AnyDesc C)
+            → self.now ≡ difference C.id_of parent child → column < length child.lows
+            → DiffersAt int_eq parent.lows column low
+            → change ≡ difference C.id_of parent
+            (record child { lows = slice_set child.lows column low })) }
+    {
+        let lows = self.lows.with_entry(alloc, column, low)?;
+        let highs = self.highs.copy_all(alloc)?;
+        self.with_bounds(alloc, lows, highs)
+    }
+
+    // The same change but for the bounds.
+    fn with_bounds(
+        &self,
+        alloc: Global,
+        lows: FieldMods<i64>,
+        highs: FieldMods<i64>,
+    ) -> Result<Change<C>, AllocError>
+        ensures { IfOk result (λ change. change ≡ record self.now { lows = lows; highs = highs }) }
+    {
+        Ok(Change {
+            lows,
+            highs,
+            cuts: self.cuts.duplicate(alloc)?,
+            columns: self.columns.copy_all(alloc)?,
+            rows: self.rows.copy_all(alloc)?,
+            fresh: self.fresh.copy_all(alloc)?,
+        })
+    }
+}
+
+/// Sets the bounds, drops cuts with their statuses, adds cuts at the end with status `AtLow`,
+/// then sets the statuses. `AllocError` where there is no memory; the description is then as it
+/// was.
 pub fn apply<C: Drop>(change: &Change<C>, desc: &mut Desc<C>) -> Result<(), AllocError>
     requires whole { IsWhole desc.old }
     requires fits { Fits change.now desc.old }
@@ -61,8 +130,10 @@ fn new_cut_status<C: Drop>(
     change: &Change<C>,
     status: &Items<Status>,
 ) -> Result<Items<Status>, AllocError>
-    requires { All (λ m. m.place < length (cut_status_after change.now.cuts status.now)) change.now.fresh }
-    ensures { IfOk result (λ s. s ≡ written change.now.fresh (cut_status_after change.now.cuts status.now)) }
+    requires { All (λ m. m.place < length (cut_status_after change.now.cuts status.now))
+        change.now.fresh }
+    ensures { IfOk result (λ s. s
+        ≡ written change.now.fresh (cut_status_after change.now.cuts status.now)) }
 {
     let mut after = relisted_status(&change.cuts, status)?;
     change.fresh.apply_to(&mut after);
@@ -83,7 +154,9 @@ fn relisted_status<C: Drop>(
     Ok(after)
 }
 
-/// The canonical difference: exactly the bounds and statuses that differ, and the dropped and added cuts by id. Applied to the parent it gives the child, and no change with that effect has fewer entries. `AllocError` where there is no memory.
+/// The canonical difference: exactly the bounds and statuses that differ, and the dropped and
+/// added cuts by id. Applied to the parent it gives the child, and no change with that effect
+/// has fewer entries. `AllocError` where there is no memory.
 pub fn between<C: Item + Drop>(
     alloc: Global,
     parent: &Desc<C>,

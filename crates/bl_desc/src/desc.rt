@@ -1,7 +1,8 @@
 //! Descriptions, and the forms in which they are kept.
 ghost use Rattle.std.specs.Prelude.{◌≡◌, IfOk};
 ghost use Rattle.bl_desc.specs.declared.desc.Status.TheVariants.{AtLow};
-ghost use Rattle.bl_desc.specs.Weights.{weight_of, desc_weight_of, change_weight_of, HasShortLists, DescHasShortLists, ChangeHasShortLists};
+ghost use Rattle.bl_desc.specs.Weights.{weight_of, desc_weight_of, change_weight_of};
+ghost use Rattle.bl_desc.specs.Weights.{HasShortLists, DescHasShortLists, ChangeHasShortLists};
 
 use crate::change::Change;
 use bl_mods::{Duplicate, Items, Shared};
@@ -53,12 +54,12 @@ impl<C: Drop> Desc<C> {
         ensures { IfOk result (λ copy. copy ≡ self.now) }
     {
         Ok(Desc {
-            lows: self.lows.duplicate_all()?,
-            highs: self.highs.duplicate_all()?,
+            lows: self.lows.copy_all()?,
+            highs: self.highs.copy_all()?,
             cuts: self.cuts.duplicate_all()?,
-            column_status: self.column_status.duplicate_all()?,
-            row_status: self.row_status.duplicate_all()?,
-            cut_status: self.cut_status.duplicate_all()?,
+            column_status: self.column_status.copy_all()?,
+            row_status: self.row_status.copy_all()?,
+            cut_status: self.cut_status.copy_all()?,
         })
     }
 }

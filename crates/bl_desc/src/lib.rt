@@ -1,4 +1,4 @@
-//! Descriptions of nodes, changes between them, and what a change makes of a description.
+//! Model: descriptions of nodes, changes between them, and what a change makes of a description.
 #![tactic(auto)]
 
 mod change;

@@ -1,39 +1,54 @@
--- In a legal history the takes so far and those that may still come are bounded by the number of points.
-use Rattle.std.proofs.Common.{◌≡◌, ℕ, ◌+◌, ◌-◌, ◌*◌, ◌<◌, ◌≤◌, List, [], ◌∷◌, length, refl, ap, sym, ◌∙◌, subst, arith, length-append, Bool, true, false, Option, inl, inr}
-use Rattle.std.specs.Prelude.{◌==◌, ◌&&◌, ℤ, pos, ◌≤ℤ◌, ◌<ℤ◌, ◌+ℤ◌, int_le, slice_set, slice_index_or}
+-- In a legal history the takes so far and those that may still come are bounded by the number of
+-- points.
+use Rattle.std.proofs.Common.{◌≡◌, ℕ, ◌+◌, ◌-◌, ◌*◌, ◌<◌, ◌≤◌, List, [], ◌∷◌, length, refl, ap}
+use Rattle.std.proofs.Common.{sym, ◌∙◌, subst, arith, length-append, Bool, true, false, cond}
+use Rattle.std.proofs.Common.{Option, inl, inr}
+use Rattle.std.specs.Prelude.{◌==◌, ◌&&◌, ℤ, ◌≤ℤ◌, int_le, slice_set}
 use Rattle.std.proofs.lemmas.Int.{ints}
 use Rattle.std.proofs.lemmas.Bool.{and_parts, and_from, cases_Bool, cond-true, eq-eqb}
-use Rattle.std.proofs.lemmas.List.{get_or_at, get_or-append-add, length-map}
+use Rattle.std.proofs.lemmas.List.{length-map}
 use Rattle.std.proofs.Math.Nat.{mul-pos}
 use Rattle.bl_mods.specs.Mods.{is_among}
 use Rattle.bl_problem.specs.Program.{Program}
 use Rattle.bl_problem.specs.Points.{own_lows, own_highs, points_in}
 use Rattle.bl_problem.specs.Decisions.{Box, narrowed_all}
 use Rattle.bl_problem.specs.declared.cut.Cut.{Cut}
-use Rattle.bl_problem.proofs.Counts.{width-pos, points_in-narrowed, AreHalves, points_in-halves, length-narrowed}
+use Rattle.bl_problem.specs.declared.decision.Decision.{Decision}
+use Rattle.bl_problem.proofs.Counts.{width-pos, points_in-narrowed, AreHalves, points_in-halves}
+use Rattle.bl_problem.proofs.Counts.{length-narrowed}
 use Rattle.bl_desc.specs.declared.desc.Desc.{Desc}
-use Rattle.bl_desc.specs.declared.change.Change.{Change}
 use Rattle.bl_desc.specs.Changes.{changed}
 use Rattle.bl_journal.specs.declared.entry.Entry.{Entry}
 use Rattle.bl_journal.specs.declared.entry.Entry.TheVariants.{Take, Put, Back, Encode, Free}
 use Rattle.bl_journal.specs.declared.entry.Step.{Step}
 use Rattle.bl_journal.specs.declared.entry.Step.TheVariants.{Shut, Split}
-use Rattle.bl_journal.specs.Soundness.{decisions_of}
+use Rattle.bl_journal.specs.Soundness.{SplitsWell, cutoff_with, decisions_of}
 use Rattle.bl_journal.specs.declared.settings.Settings.{Settings}
-use Rattle.bl_journal.specs.Births.{Node, Branch, nodes_of, node_at, root_node, left_branch, right_branch}
+use Rattle.bl_journal.specs.Births.{Node, Branch, nodes_of, node_at, root_node, IsBorn}
 use Rattle.bl_journal.specs.Descriptions.{full_of, full_along, box_along, decisions_along}
-use Rattle.bl_journal.specs.States.{State, waiting, out, split, shut, freed, state_of, put_state, is_open, is_live, is_live_in, is_below, cutoff_for, best_of, has_point, used_of}
+use Rattle.bl_journal.specs.States.{state_of, put_state, is_open, is_live, is_live_in, is_below}
+use Rattle.bl_journal.specs.States.{cutoff_for, best_of, has_point, used_of, cutoff_of}
+use Rattle.bl_journal.specs.declared.state.State.{State}
+use Rattle.bl_journal.specs.declared.state.State.TheVariants.{Waiting as waiting, Out as out}
+use Rattle.bl_journal.specs.declared.state.State.TheVariants.{Split as split, Shut as shut}
+use Rattle.bl_journal.specs.declared.state.State.TheVariants.{Freed as freed}
 use Rattle.bl_journal.specs.Replies.{is_out}
 use Rattle.bl_journal.specs.Results.{node_points, share_in, room_of}
-use Rattle.bl_journal.specs.Legality.{IsLegalPast, MayPut}
+use Rattle.bl_journal.specs.Legality.{IsAllowed, IsLegalPast, SplitPut, with_split}
+use Rattle.bl_journal.specs.Laws.{IsUnused}
 use Rattle.bl_journal.proofs.Growth.{get_or-grown}
-use Rattle.bl_journal.proofs.Living.{take_gives}
-use Rattle.bl_journal.proofs.Leaves.{by_test, is_waiting-is, shape, out_born, state_kept, left_of, right_of}
+use Rattle.bl_journal.proofs.Living.{take_gives, each_past}
+use Rattle.bl_journal.proofs.Leaves.{by_test, is_waiting-is, shape, out_born, state_kept}
+use Rattle.bl_journal.proofs.Induction.{child_by}
 use Rattle.bl_journal.proofs.Cutoffs.{below_before}
-use Rattle.bl_journal.proofs.Children.{box_common, box_of, full_along-push}
-use Rattle.bl_journal.proofs.Sums.{one_if, total, sum_ids, total-le, total-at, total-change, total-two}
+use Rattle.bl_journal.proofs.Children.{box_common, box_of, bound_set}
+use Rattle.bl_journal.proofs.Births.{IsMade, left_decision, right_decision, left_made, right_made}
+use Rattle.bl_journal.proofs.Births.{child_follows}
+use Rattle.bl_journal.proofs.Sums.{one_if, total, sum_ids, total-le, total-at, total-change}
+use Rattle.bl_journal.proofs.Sums.{total-two}
 
-pub has_point-points : (lows highs : List ℤ) → has_point lows highs ≡ true → 0 < points_in lows highs
+pub has_point-points : (lows highs : List ℤ) → has_point lows highs ≡ true → 0
+    < points_in lows highs
 has_point-points [] highs e = omega arith
 has_point-points (l ∷ lows) [] e = omega arith
 has_point-points (l ∷ lows) (h ∷ highs) e =
@@ -42,278 +57,409 @@ has_point-points (l ∷ lows) (h ∷ highs) e =
     mul-pos (width-pos l h i) (has_point-points lows highs parts.1)
 
 -- each node has at most the points of the root
-pub node_points-le : (p : Program) (past : List Entry) (id : ℕ) → node_points p past id ≤ points_in (own_lows p) (own_highs p)
-node_points-le p past id = points_in-narrowed (record { lows = own_lows p; highs = own_highs p }) (decisions_along (node_at p past id).path)
+pub node_points-le : (p : Program) (past : List Entry) (id : ℕ) → node_points p past id
+    ≤ points_in (own_lows p) (own_highs p)
+node_points-le p past id = points_in-narrowed (record { lows = own_lows p; highs = own_highs p })
+    (decisions_along (node_at p past id).path)
 
-pub length-box_along : (p : Program) (branches : List Branch) → (length (box_along p branches).lows ≡ length p.columns) × (length (box_along p branches).highs ≡ length p.columns)
+pub length-box_along : (p : Program) (branches : List Branch)
+    → (length (box_along p branches).lows ≡ length p.columns)
+    × (length (box_along p branches).highs ≡ length p.columns)
 length-box_along p branches =
-    let n = length-narrowed (record { lows = own_lows p; highs = own_highs p }) (decisions_along branches) in
+    let n = length-narrowed (record { lows = own_lows p; highs = own_highs p })
+    (decisions_along branches) in
     (n.0 ∙ length-map p.columns (λ c. c.low), n.1 ∙ length-map p.columns (λ c. c.high))
 
--- the points of the two children of a sound split are halves of a box with no more points than the node
-pub record SplitPoints (p : Program) (s : Settings) (past : List Entry) (id left right : ℕ) : Type 0 where
+-- the points of the two children of a sound split are halves of a box with no more points than
+-- the node
+pub record SplitPoints (p : Program) (s : Settings) (past : List Entry)
+    (put : SplitPut p s past) : Type 0 where
   pub whole : ℕ
-  pub halves : AreHalves left right whole
-  pub fewer : whole ≤ node_points p past id
+  pub halves : AreHalves (node_points p (with_split put) (length (nodes_of p past)))
+      (node_points p (with_split put) (length (nodes_of p past) + 1)) whole
+  pub fewer : whole ≤ node_points p past put.id
 
-pub split_points : (p : Program) (s : Settings) (past : List Entry) (seat id : ℕ) (found : Option (List ℤ)) (low : ℤ) (common : Change Cut) (column : ℕ) (at : ℤ)
-    → MayPut p s past seat id found low (Split common column at)
-    → SplitPoints p s past id (node_points p (Put seat id found low (Split common column at) ∷ past) (length (nodes_of p past)))
-    (node_points p (Put seat id found low (Split common column at) ∷ past) (length (nodes_of p past) + 1))
-split_points p s past seat id found low common column at may =
+pub split_points : (p : Program) (s : Settings) (past : List Entry) (put : SplitPut p s past)
+    → SplitPoints p s past put
+split_points p s past put =
     record {
       whole = points_in c.lows c.highs;
-      halves = subst (λ (n : ℕ). AreHalves n (node_points p new (length (nodes_of p past) + 1)) (points_in c.lows c.highs)) (sym left_is)
-          (subst (λ (n : ℕ). AreHalves (points_in c.lows (slice_set c.highs column at)) n (points_in c.lows c.highs)) (sym right_is)
-          (points_in-halves c.lows c.highs column at within same (may.sound.next_ok.low_at_most) (may.sound.next_ok.below_high)));
-      fewer =
-          let a : points_in (narrowed_all (box_along p path) (decisions_of common)).lows (narrowed_all (box_along p path) (decisions_of common)).highs ≤ node_points p past id =
-          points_in-narrowed (box_along p path) (decisions_of common) in
-          subst (λ (b : Box). points_in b.lows b.highs ≤ node_points p past id) boxed a;
+      halves = subst (λ (n : ℕ). AreHalves n
+          (node_points p (with_split put) (length (nodes_of p past) + 1))
+          (points_in c.lows c.highs))
+          (sym (points_by (length (nodes_of p past)) (left_decision put) (left_made p s past put)))
+          (subst (λ (n : ℕ). AreHalves (points_in c.lows (slice_set c.highs put.column put.at)) n
+          (points_in c.lows c.highs))
+          (sym (points_by (length (nodes_of p past) + 1) (right_decision put)
+          (right_made p s past put)))
+          (points_in-halves c.lows c.highs put.column put.at within (lens.1 ∙ sym lens.0)
+          sw.low_at_most sw.below_high));
+      fewer = subst (λ (b : Box). points_in b.lows b.highs ≤ node_points p past put.id) boxed
+          (points_in-narrowed above (decisions_of put.common));
     }
   where
-    new : List Entry
-    new = Put seat id found low (Split common column at) ∷ past
+    sw : SplitsWell p (full_of p past put.id)
+        (cutoff_with p (cutoff_of p s past put.id) put.found) put.common put.column put.at
+    sw = put.may.sound.next_ok
 
-    path : List Branch
-    path = (node_at p past id).path
+    above : Box
+    above = box_along p (node_at p past put.id).path
 
     c : Desc Cut
-    c = changed common (full_of p past id)
+    c = changed put.common (full_of p past put.id)
 
-    boxed : narrowed_all (box_along p (node_at p past id).path) (decisions_of common) ≡ box_of (changed common (full_of p past id))
-    boxed = box_common p (node_at p past id).path common may.sound.next_ok.common_fits
+    boxed : narrowed_all (box_along p (node_at p past put.id).path) (decisions_of put.common)
+        ≡ box_of (changed put.common (full_of p past put.id))
+    boxed = box_common p (node_at p past put.id).path put.common sw.common_fits
 
-    lens : (length (changed common (full_of p past id)).lows ≡ length p.columns) × (length (changed common (full_of p past id)).highs ≡ length p.columns)
+    lens : (length (changed put.common (full_of p past put.id)).lows ≡ length p.columns)
+        × (length (changed put.common (full_of p past put.id)).highs ≡ length p.columns)
     lens =
-        let n = length-narrowed (box_along p (node_at p past id).path) (decisions_of common) in
-        let b = length-box_along p (node_at p past id).path in
-        (ap (λ (x : Box). length x.lows) (sym boxed) ∙ (n.0 ∙ b.0), ap (λ (x : Box). length x.highs) (sym boxed) ∙ (n.1 ∙ b.1))
+        let n = length-narrowed above (decisions_of put.common) in
+        let b = length-box_along p (node_at p past put.id).path in (
+          ap (λ (x : Box). length x.lows) (sym boxed)
+              ∙ (n.0 ∙ b.0),
+          ap (λ (x : Box). length x.highs) (sym boxed) ∙ (n.1 ∙ b.1),
+        )
 
-    same : length (changed common (full_of p past id)).highs ≡ length (changed common (full_of p past id)).lows
-    same = lens.1 ∙ sym lens.0
-
-    within : column < length (changed common (full_of p past id)).lows
+    within : put.column < length (changed put.common (full_of p past put.id)).lows
     within =
-        let a : column < length (full_of p past id).lows = may.sound.next_ok.column_in in
-        let b : length (full_of p past id).lows ≡ length p.columns = (length-box_along p (node_at p past id).path).0 in
-        let d : length (changed common (full_of p past id)).lows ≡ length p.columns = lens.0 in
+        let a : put.column < length (full_of p past put.id).lows = sw.column_in in
+        let b : length (full_of p past put.id).lows ≡ length p.columns =
+        (length-box_along p (node_at p past put.id).path).0 in
+        let d : length (changed put.common (full_of p past put.id)).lows ≡ length p.columns =
+        lens.0 in
         omega (arith, a, b, d)
 
-    at_left : node_at p (Put seat id found low (Split common column at) ∷ past) (length (nodes_of p past)) ≡ left_of (node_at p past id) id low common column at
-    at_left = get_or_at (nodes_of p past) (left_of (node_at p past id) id low common column at) (right_of (node_at p past id) id low common column at ∷ []) (root_node p) (length (nodes_of p past)) refl
+    points_by : (k : ℕ) (d : Decision) → IsMade p s past put k d
+        → node_points p (with_split put) k
+        ≡ points_in (bound_set d.side (changed put.common (full_of p past put.id)) d.column
+        d.value).lows (bound_set d.side (changed put.common (full_of p past put.id)) d.column
+        d.value).highs
+    points_by k d made = ap (λ (x : Desc Cut). points_in x.lows x.highs)
+        (child_follows p s past put k d made)
 
-    at_right : node_at p (Put seat id found low (Split common column at) ∷ past) (length (nodes_of p past) + 1) ≡ right_of (node_at p past id) id low common column at
-    at_right = get_or-append-add (nodes_of p past) (left_of (node_at p past id) id low common column at ∷ right_of (node_at p past id) id low common column at ∷ []) 1 (root_node p)
+-- what a node counts for, by its state, whether it is open, and its points
+abbrev weigh : (State → Bool → ℕ → ℕ) → Program → Settings → List Entry → ℕ → ℕ
+weigh w p s past id = w (state_of past id) (is_open p s past id) (node_points p past id)
 
-    left_is : node_points p (Put seat id found low (Split common column at) ∷ past) (length (nodes_of p past))
-        ≡ points_in (changed common (full_of p past id)).lows (slice_set (changed common (full_of p past id)).highs column at)
-    left_is =
-        ap (λ (n : Node). points_in (full_along p n.path).lows (full_along p n.path).highs) at_left
-        ∙ ap (λ (d : Desc Cut). points_in d.lows d.highs) (full_along-push p (node_at p past id).path (left_branch common column at) may.sound.next_ok.common_fits may.sound.next_ok.below_high)
+-- it counts for less where it is no longer open, and for nothing where it is put or freed
+record Counts (w : State → Bool → ℕ → ℕ) : Type 0 where
+  falls : (st : State) (b b' : Bool) (n : ℕ) → (b' ≡ true → b ≡ true) → w st b' n ≤ w st b n
+  put : (next : Step) (b : Bool) (n : ℕ) → w (put_state next) b n ≡ 0
+  gone : (b : Bool) (n : ℕ) → w freed b n ≡ 0
 
-    low_below : slice_index_or (changed common (full_of p past id)).lows column (pos 0) <ℤ (at +ℤ pos 1)
-    low_below =
-        let a : slice_index_or (changed common (full_of p past id)).lows column (pos 0) ≤ℤ at = may.sound.next_ok.low_at_most in
-        omega (arith, ints, a)
+-- a node that was born and keeps its state counts for no more after an entry
+other_falls : (w : State → Bool → ℕ → ℕ) → Counts w
+    → (p : Program) (s : Settings) (past : List Entry) (e : Entry) (k : ℕ) → IsBorn p past k
+    → state_of (e ∷ past) k ≡ state_of past k
+    → weigh w p s (e ∷ past) k ≤ weigh w p s past k
+other_falls w c p s past e k born same =
+    let new : List Entry = e ∷ past in
+    let node : node_at p new k ≡ node_at p past k =
+    get_or-grown p (nodes_of p past) e (root_node p) k born in
+    let points : node_points p new k ≡ node_points p past k =
+    ap (λ (n : Node). points_in (full_along p n.path).lows (full_along p n.path).highs) node in
+    let opens : is_open p s new k ≡ true → is_open p s past k ≡ true = λ h.
+    let P : Node → Type 0 = λ n. (has_point (full_along p n.path).lows (full_along p n.path).highs
+    && is_below n.low (cutoff_for p s new)) ≡ true in
+    let parts = and_parts _ _ (subst P node h) in
+    and_from _ _ parts.0 (below_before p s.gap (best_of p past) e (node_at p past k).low parts.1) in
+    let a : weigh w p s new k ≡ w (state_of past k) (is_open p s new k) (node_points p past k) =
+    ap (λ t. w t (is_open p s new k) (node_points p new k)) same
+    ∙ ap (w (state_of past k) (is_open p s new k)) points in
+    rw a (c.falls (state_of past k) (is_open p s past k) (is_open p s new k)
+    (node_points p past k) opens)
 
-    right_is : node_points p (Put seat id found low (Split common column at) ∷ past) (length (nodes_of p past) + 1)
-        ≡ points_in (slice_set (changed common (full_of p past id)).lows column (at +ℤ pos 1)) (changed common (full_of p past id)).highs
-    right_is =
-        ap (λ (n : Node). points_in (full_along p n.path).lows (full_along p n.path).highs) at_right
-        ∙ ap (λ (d : Desc Cut). points_in d.lows d.highs) (full_along-push p (node_at p past id).path (right_branch common column at) may.sound.next_ok.common_fits low_below)
+-- an entry that gives one node another state
+one_moves : (w : State → Bool → ℕ → ℕ) → Counts w → (p : Program) (s : Settings)
+    (past : List Entry) (e : Entry) (i : ℕ) (st : State) → IsBorn p past i
+    → ((k : ℕ) → state_of (e ∷ past) k ≡ cond (i == k) st (state_of past k))
+    → total (weigh w p s (e ∷ past)) (length (nodes_of p past)) + weigh w p s past i
+    ≤ total (weigh w p s past) (length (nodes_of p past))
+    + w st (is_open p s (e ∷ past) i) (node_points p (e ∷ past) i)
+one_moves w c p s past e i st born moves =
+    let n : ℕ = length (nodes_of p past) in
+    let change : total (weigh w p s (e ∷ past)) n + weigh w p s past i
+    ≤ total (weigh w p s past) n + weigh w p s (e ∷ past) i =
+    total-change (weigh w p s past) (weigh w p s (e ∷ past)) n i born
+    (λ k b ne. other_falls w c p s past e k b
+    (moves k ∙ state_kept k i (state_of past k) st (λ h. ne (sym h)))) in
+    let now : weigh w p s (e ∷ past) i
+    ≡ w st (is_open p s (e ∷ past) i) (node_points p (e ∷ past) i) =
+    ap (λ t. w t (is_open p s (e ∷ past) i) (node_points p (e ∷ past) i))
+    (moves i ∙ cond-true (i == i) st (state_of past i) (eq-eqb i i refl)) in
+    omega (arith, change, now)
+
+put_moves : (w : State → Bool → ℕ → ℕ) → Counts w
+    → (p : Program) (s : Settings) (past : List Entry) (seat i : ℕ) (found : Option (List ℤ))
+    (low : ℤ) (next : Step) → IsBorn p past i
+    → total (weigh w p s (Put seat i found low next ∷ past)) (length (nodes_of p past))
+    + weigh w p s past i ≤ total (weigh w p s past) (length (nodes_of p past))
+put_moves w c p s past seat i found low next born =
+    let e : Entry = Put seat i found low next in
+    let n : ℕ = length (nodes_of p past) in
+    let change : total (weigh w p s (e ∷ past)) n + weigh w p s past i
+    ≤ total (weigh w p s past) n + w (put_state next) (is_open p s (e ∷ past) i)
+    (node_points p (e ∷ past) i) =
+    one_moves w c p s past e i (put_state next) born (λ k. refl) in
+    let nothing : w (put_state next) (is_open p s (e ∷ past) i) (node_points p (e ∷ past) i) ≡ 0 =
+    c.put next (is_open p s (e ∷ past) i) (node_points p (e ∷ past) i) in
+    omega (arith, change, nothing)
+
+frees_fall : (w : State → Bool → ℕ → ℕ) → Counts w
+    → (p : Program) (s : Settings) (past : List Entry) (seat : ℕ) (ids : List ℕ)
+    → total (weigh w p s (Free seat ids ∷ past)) (length (nodes_of p past))
+    ≤ total (weigh w p s past) (length (nodes_of p past))
+frees_fall w c p s past seat ids =
+    total-le (weigh w p s past) (weigh w p s (Free seat ids ∷ past)) (length (nodes_of p past))
+    (λ k b. by_test (λ (t : State). w t (is_open p s past k) (node_points p past k)
+    ≤ weigh w p s past k) (is_among k ids) freed (state_of past k)
+    (λ _. let none : w freed (is_open p s past k) (node_points p past k) ≡ 0 =
+    c.gone (is_open p s past k) (node_points p past k) in omega (arith, none))
+    (λ _. omega arith))
+
+-- the two children of a split are waiting
+children_count : (w : State → Bool → ℕ → ℕ) (p : Program) (s : Settings) (past : List Entry)
+    (put : SplitPut p s past) → IsLegalPast p s past
+    → total (weigh w p s (with_split put)) (length (nodes_of p (with_split put)))
+    ≡ (total (weigh w p s (with_split put)) (length (nodes_of p past))
+    + w waiting (is_open p s (with_split put) (length (nodes_of p past)))
+    (node_points p (with_split put) (length (nodes_of p past))))
+    + w waiting (is_open p s (with_split put) (length (nodes_of p past) + 1))
+    (node_points p (with_split put) (length (nodes_of p past) + 1))
+children_count w p s past put legal =
+    let n : ℕ = length (nodes_of p past) in
+    let new : List Entry = with_split put in
+    let two = total-two (weigh w p s new) n (length (nodes_of p new))
+    (length-append (nodes_of p past) (child_by put (left_decision put)
+    ∷ child_by put (right_decision put) ∷ [])) in
+    let a : weigh w p s new n ≡ w waiting (is_open p s new n) (node_points p new n) =
+    ap (λ t. w t (is_open p s new n) (node_points p new n)) (waits n (omega arith)) in
+    let b : weigh w p s new (n + 1) ≡ w waiting (is_open p s new (n + 1))
+    (node_points p new (n + 1)) =
+    ap (λ t. w t (is_open p s new (n + 1)) (node_points p new (n + 1)))
+    (waits (n + 1) (omega arith)) in
+    omega (arith, two, a, b)
+  where
+    waits : (k : ℕ) → length (nodes_of p past) ≤ k → state_of (with_split put) k ≡ waiting
+    waits k h =
+        let sh = shape p s past legal in
+        let born : put.id < length (nodes_of p past) =
+        out_born p past put.id put.seat sh put.may.is_out in
+        state_kept k put.id (state_of past k) split (λ g. omega (arith, g, born, h)) ∙ sh.unborn k h
 
 -- a node's part in the room
 abbrev pub share : Program → Settings → List Entry → ℕ → ℕ
 share p s past id = share_in (state_of past id) (is_open p s past id) (node_points p past id)
 
-abbrev pub out_one : List Entry → ℕ → ℕ
-out_one past id = one_if (is_out (state_of past id))
-
 share-waiting : (b : Bool) (n : ℕ) → share_in waiting b n ≤ 2 * n - 1
 share-waiting true n = omega arith
 share-waiting false n = omega arith
 
-share-falls : (st : State) (b b' : Bool) (n : ℕ) → (b' ≡ true → b ≡ true) → share_in st b' n ≤ share_in st b n
-share-falls waiting b false n h = omega arith
-share-falls waiting b true n h = let e : b ≡ true = h refl in rw e (omega arith)
-share-falls (out seat) b b' n h = omega arith
-share-falls split b b' n h = omega arith
-share-falls shut b b' n h = omega arith
-share-falls freed b b' n h = omega arith
+share_counts : Counts share_in
+share_counts = record { falls = falls; put = put; gone = λ b n. refl }
+  where
+    falls : (st : State) (b b' : Bool) (n : ℕ) → (b' ≡ true → b ≡ true) → share_in st b' n
+        ≤ share_in st b n
+    falls waiting b false n h = omega arith
+    falls waiting b true n h = let e : b ≡ true = h refl in rw e (omega arith)
+    falls (out seat) b b' n h = omega arith
+    falls split b b' n h = omega arith
+    falls shut b b' n h = omega arith
+    falls freed b b' n h = omega arith
 
-one_le : (b : Bool) → one_if b ≤ 1
-one_le true = omega arith
-one_le false = omega arith
+    put : (next : Step) (b : Bool) (n : ℕ) → share_in (put_state next) b n ≡ 0
+    put Shut b n = refl
+    put (Split common column at) b n = refl
 
-put_state-not_out : (next : Step) → one_if (is_out (put_state next)) ≡ 0
-put_state-not_out Shut = refl
-put_state-not_out (Split common column at) = refl
+abbrev pub out_one : List Entry → ℕ → ℕ
+out_one past id = one_if (is_out (state_of past id))
 
-put_state-no_share : (next : Step) (b : Bool) (n : ℕ) → share_in (put_state next) b n ≡ 0
-put_state-no_share Shut b n = refl
-put_state-no_share (Split common column at) b n = refl
+-- 1 where the node is out
+abbrev outs : State → Bool → ℕ → ℕ
+outs st b n = one_if (is_out st)
 
--- a put leaves less room to the other nodes that were born
-share-put : (p : Program) (s : Settings) (past : List Entry) (seat i : ℕ) (found : Option (List ℤ)) (low : ℤ) (next : Step) (k : ℕ) → k < length (nodes_of p past) → (k ≡ i → ⊥)
-    → share p s (Put seat i found low next ∷ past) k ≤ share p s past k
-share-put p s past seat i found low next k born other =
-    let new : List Entry = Put seat i found low next ∷ past in
-    let node : node_at p new k ≡ node_at p past k = get_or-grown p (nodes_of p past) (Put seat i found low next) (root_node p) k born in
-    let st : state_of new k ≡ state_of past k = state_kept k i (state_of past k) (put_state next) (λ e. other (sym e)) in
-    let points : node_points p new k ≡ node_points p past k = ap (λ (n : Node). points_in (full_along p n.path).lows (full_along p n.path).highs) node in
-    let opens : is_open p s new k ≡ true → is_open p s past k ≡ true = λ h.
-    let P : Node → Type 0 = λ n. (has_point (full_along p n.path).lows (full_along p n.path).highs && is_below n.low (cutoff_for p s new)) ≡ true in
-    let parts = and_parts _ _ (subst P node h) in
-    and_from _ _ parts.0 (below_before p s.gap (best_of p past) (Put seat i found low next) (node_at p past k).low parts.1) in
-    let a : share p s new k ≡ share_in (state_of past k) (is_open p s new k) (node_points p past k) =
-    ap (λ t. share_in t (is_open p s new k) (node_points p new k)) st ∙ ap (share_in (state_of past k) (is_open p s new k)) points in
-    rw a (share-falls (state_of past k) (is_open p s past k) (is_open p s new k) (node_points p past k) opens)
+outs_count : Counts outs
+outs_count = record { falls = λ st b b' n h. omega arith; put = put; gone = λ b n. refl }
+  where
+    put : (next : Step) (b : Bool) (n : ℕ) → one_if (is_out (put_state next)) ≡ 0
+    put Shut b n = refl
+    put (Split common column at) b n = refl
 
-unborn_state : (p : Program) (s : Settings) (past : List Entry) (seat i : ℕ) (found : Option (List ℤ)) (low : ℤ) (next : Step) → IsLegalPast p s past → MayPut p s past seat i found low next
-    → (k : ℕ) → length (nodes_of p past) ≤ k → state_of (Put seat i found low next ∷ past) k ≡ waiting
-unborn_state p s past seat i found low next l may k h =
-    let b : i < length (nodes_of p past) = out_born p past i seat (shape p s past l) may.is_out in
-    state_kept k i (state_of past k) (put_state next) (λ g. omega (arith, g, b, h)) ∙ (shape p s past l).unborn k h
+abbrev outs_of : Program → List Entry → ℕ
+outs_of p past = total (out_one past) (length (nodes_of p past))
 
 -- the nodes that are out are at most the takes less the backs
-pub outs_used : (p : Program) (s : Settings) (past : List Entry) → IsLegalPast p s past → total (out_one past) (length (nodes_of p past)) ≤ used_of past
-outs_used p s [] l = omega arith
-outs_used p s (Take seat i ∷ past) l =
-    let ih : total (out_one past) (length (nodes_of p past)) ≤ used_of past = outs_used p s past l.1 in
-    let born : i < length (nodes_of p past) = (take_gives p s past i l.0).born in
-    let c : total (out_one (Take seat i ∷ past)) (length (nodes_of p past)) + out_one past i ≤ total (out_one past) (length (nodes_of p past)) + out_one (Take seat i ∷ past) i =
-    total-change (out_one past) (out_one (Take seat i ∷ past)) (length (nodes_of p past)) i born
-    (λ k b ne. let e : out_one (Take seat i ∷ past) k ≡ out_one past k = ap (λ t. one_if (is_out t)) (state_kept k i (state_of past k) (out seat) (λ g. ne (sym g))) in omega (arith, e)) in
-    let one : out_one (Take seat i ∷ past) i ≤ 1 = one_le (is_out (state_of (Take seat i ∷ past) i)) in
-    omega (arith, ih, c, one)
-outs_used p s (Back seat i ∷ past) l =
-    let ih : total (out_one past) (length (nodes_of p past)) ≤ used_of past = outs_used p s past l.1 in
-    let born : i < length (nodes_of p past) = out_born p past i seat (shape p s past l.1) l.0 in
-    let c : total (out_one (Back seat i ∷ past)) (length (nodes_of p past)) + out_one past i ≤ total (out_one past) (length (nodes_of p past)) + out_one (Back seat i ∷ past) i =
-    total-change (out_one past) (out_one (Back seat i ∷ past)) (length (nodes_of p past)) i born
-    (λ k b ne. let e : out_one (Back seat i ∷ past) k ≡ out_one past k = ap (λ t. one_if (is_out t)) (state_kept k i (state_of past k) waiting (λ g. ne (sym g))) in omega (arith, e)) in
-    let was : out_one past i ≡ 1 = ap (λ t. one_if (is_out t)) l.0 in
-    let now : out_one (Back seat i ∷ past) i ≡ 0 = ap (λ t. one_if (is_out t)) (cond-true (i == i) waiting (state_of past i) (eq-eqb i i refl)) in
-    omega (arith, ih, c, was, now)
-outs_used p s (Encode seat i form ∷ past) l = outs_used p s past l.1
-outs_used p s (Free seat ids ∷ past) l =
-    let ih : total (out_one past) (length (nodes_of p past)) ≤ used_of past = outs_used p s past l.1 in
-    let c : total (out_one (Free seat ids ∷ past)) (length (nodes_of p past)) ≤ total (out_one past) (length (nodes_of p past)) =
-    total-le (out_one past) (out_one (Free seat ids ∷ past)) (length (nodes_of p past))
-    (λ k b. by_test (λ (t : State). one_if (is_out t) ≤ out_one past k) (is_among k ids) freed (state_of past k) (λ _. omega arith) (λ _. omega arith)) in
-    omega (arith, ih, c)
-outs_used p s (Put seat i found low next ∷ past) l =
-    let ih : total (out_one past) (length (nodes_of p past)) ≤ used_of past = outs_used p s past l.1 in
-    let new : List Entry = Put seat i found low next ∷ past in
-    let c : total (out_one new) (length (nodes_of p past)) ≤ total (out_one past) (length (nodes_of p past)) =
-    total-le (out_one past) (out_one new) (length (nodes_of p past))
-    (λ k b. by_test (λ (t : State). one_if (is_out t) ≤ out_one past k) (i == k) (put_state next) (state_of past k)
-    (λ _. let z : one_if (is_out (put_state next)) ≡ 0 = put_state-not_out next in omega (arith, z)) (λ _. omega arith)) in
-    let d : total (out_one new) (length (nodes_of p new)) ≤ total (out_one new) (length (nodes_of p past)) = no_more next l.0 in
-    omega (arith, ih, c, d)
+pub outs_used : (p : Program) (s : Settings) (past : List Entry) → IsLegalPast p s past
+    → outs_of p past ≤ used_of past
+outs_used p s = each_past p s (λ past. outs_of p past ≤ used_of past) (omega arith) step
   where
-    no_more : (next : Step) → MayPut p s past seat i found low next → total (out_one (Put seat i found low next ∷ past)) (length (nodes_of p (Put seat i found low next ∷ past))) ≤ total (out_one (Put seat i found low next ∷ past)) (length (nodes_of p past))
-    no_more Shut may = omega arith
-    no_more (Split common column at) may =
-        let len = length-append (nodes_of p past) (left_of (node_at p past i) i low common column at ∷ right_of (node_at p past i) i low common column at ∷ []) in
-        let two = total-two (out_one (Put seat i found low (Split common column at) ∷ past)) (length (nodes_of p past)) (length (nodes_of p (Put seat i found low (Split common column at) ∷ past))) len in
-        let a : out_one (Put seat i found low (Split common column at) ∷ past) (length (nodes_of p past)) ≡ 0 =
-        ap (λ t. one_if (is_out t)) (unborn_state p s past seat i found low (Split common column at) l.1 may (length (nodes_of p past)) (omega arith)) in
-        let b : out_one (Put seat i found low (Split common column at) ∷ past) (length (nodes_of p past) + 1) ≡ 0 =
-        ap (λ t. one_if (is_out t)) (unborn_state p s past seat i found low (Split common column at) l.1 may (length (nodes_of p past) + 1) (omega arith)) in
-        omega (arith, two, a, b)
+    step : (past : List Entry) (e : Entry) → IsLegalPast p s past → IsAllowed p s past e
+        → outs_of p past ≤ used_of past → outs_of p (e ∷ past) ≤ used_of (e ∷ past)
+    step past (Take seat i) l a ih =
+        let c : outs_of p (Take seat i ∷ past) + out_one past i ≤ outs_of p past + 1 =
+        one_moves outs outs_count p s past (Take seat i) i (out seat)
+        (take_gives p s past i a).born (λ k. refl) in
+        omega (arith, ih, c)
+    step past (Back seat i) l a ih =
+        let c : outs_of p (Back seat i ∷ past) + out_one past i ≤ outs_of p past + 0 =
+        one_moves outs outs_count p s past (Back seat i) i waiting
+        (out_born p past i seat (shape p s past l) a) (λ k. refl) in
+        let was : out_one past i ≡ 1 = ap (λ t. one_if (is_out t)) a in
+        omega (arith, ih, c, was)
+    step past (Encode seat i form) l a ih = ih
+    step past (Free seat ids) l a ih = let c : outs_of p (Free seat ids ∷ past) ≤ outs_of p past =
+        frees_fall outs outs_count p s past seat ids in omega (arith, ih, c)
+    step past (Put seat i found low Shut) l a ih =
+        let c : outs_of p (Put seat i found low Shut ∷ past) + out_one past i ≤ outs_of p past =
+        put_moves outs outs_count p s past seat i found low Shut
+        (out_born p past i seat (shape p s past l) a.is_out) in
+        omega (arith, ih, c)
+    step past (Put seat i found low (Split common column at)) l a ih =
+        let put : SplitPut p s past = record {
+          seat = seat;
+          id = i;
+          found = found;
+          low =
+              low;
+          common = common;
+          column = column;
+          at = at;
+          may = a;
+        } in
+        let c : total (out_one (with_split put)) (length (nodes_of p past)) + out_one past i
+        ≤ outs_of p past =
+        put_moves outs outs_count p s past seat i found low (Split common column at)
+        (out_born p past i seat (shape p s past l) a.is_out) in
+        let d : outs_of p (with_split put)
+        ≡ (total (out_one (with_split put)) (length (nodes_of p past)) + 0) + 0 =
+        children_count outs p s past put l in
+        omega (arith, ih, c, d)
 
--- the shares of the nodes add up to no more than the number of points allows
+abbrev shares_of : Program → Settings → List Entry → ℕ
+shares_of p s past = total (share p s past) (length (nodes_of p past))
+
+-- the shares of the children are less than that of the node that was out
+children_share : (p : Program) (s : Settings) (past : List Entry) (put : SplitPut p s past)
+    → IsLegalPast p s past
+    → shares_of p s (with_split put) ≤ total (share p s (with_split put))
+    (length (nodes_of p past)) + (2 * node_points p past put.id - 2)
+children_share p s past put legal =
+    let new : List Entry = with_split put in
+    let n : ℕ = length (nodes_of p past) in
+    let two : shares_of p s new ≡ (total (share p s new) n
+    + share_in waiting (is_open p s new n) (node_points p new n))
+    + share_in waiting (is_open p s new (n + 1)) (node_points p new (n + 1)) =
+    children_count share_in p s past put legal in
+    let a : share_in waiting (is_open p s new n) (node_points p new n)
+    ≤ 2 * node_points p new n - 1 = share-waiting (is_open p s new n) (node_points p new n) in
+    let b : share_in waiting (is_open p s new (n + 1)) (node_points p new (n + 1))
+    ≤ 2 * node_points p new (n + 1) - 1 =
+    share-waiting (is_open p s new (n + 1)) (node_points p new (n + 1)) in
+    let h : SplitPoints p s past put = split_points p s past put in
+    let adds : node_points p new n + node_points p new (n + 1) ≡ h.whole = h.halves.adds in
+    let fewer : h.whole ≤ node_points p past put.id = h.fewer in
+    elim h.halves.both [
+      | inl z ↦ omega (arith, two, a, b, adds, fewer, z)
+      | inr q ↦ let q0 : 0 < node_points p new n = q.0 in let q1 : 0 < node_points p new (n + 1) =
+          q.1 in omega (arith, two, a, b, adds, fewer, q0, q1)
+    ]
+
+-- the takes so far and the shares of the nodes add up to no more than the number of points allows
+abbrev IsWithinPoints : Program → Settings → List Entry → Type 0
+IsWithinPoints p s past = used_of past + shares_of p s past
+    ≤ 2 * points_in (own_lows p) (own_highs p) - 1
+
 pub room_within : (p : Program) (s : Settings) (past : List Entry) → IsLegalPast p s past
-    → used_of past + total (share p s past) (length (nodes_of p past)) ≤ 2 * points_in (own_lows p) (own_highs p) - 1
-room_within p s [] l =
-    let h : share p s [] 0 ≤ 2 * points_in (own_lows p) (own_highs p) - 1 = share-waiting (is_open p s [] 0) (node_points p [] 0) in
-    omega (arith, h)
-room_within p s (Take seat i ∷ past) l =
-    let ih : used_of past + total (share p s past) (length (nodes_of p past)) ≤ 2 * points_in (own_lows p) (own_highs p) - 1 = room_within p s past l.1 in
-    let g = take_gives p s past i l.0 in
-    let born : i < length (nodes_of p past) = g.born in
-    let c : total (share p s (Take seat i ∷ past)) (length (nodes_of p past)) + share p s past i ≤ total (share p s past) (length (nodes_of p past)) + share p s (Take seat i ∷ past) i =
-    total-change (share p s past) (share p s (Take seat i ∷ past)) (length (nodes_of p past)) i born
-    (λ k b ne. let e : share p s (Take seat i ∷ past) k ≡ share p s past k = ap (λ t. share_in t (is_open p s past k) (node_points p past k)) (state_kept k i (state_of past k) (out seat) (λ h. ne (sym h))) in omega (arith, e)) in
-    let was : share p s past i ≡ 2 * node_points p past i - 1 =
-    ap (λ t. share_in t (is_open p s past i) (node_points p past i)) (is_waiting-is (state_of past i) g.waits) ∙ ap (λ b. share_in waiting b (node_points p past i)) g.open_node in
-    let now : share p s (Take seat i ∷ past) i ≡ 2 * node_points p past i - 2 =
-    ap (λ t. share_in t (is_open p s past i) (node_points p past i)) (cond-true (i == i) (out seat) (state_of past i) (eq-eqb i i refl)) in
-    let some : 0 < node_points p past i = has_point-points _ _ (and_parts (has_point (full_of p past i).lows (full_of p past i).highs) (is_below (node_at p past i).low (cutoff_for p s past)) g.open_node).0 in
-    omega (arith, ih, c, was, now, some)
-room_within p s (Back seat i ∷ past) l =
-    let ih : used_of past + total (share p s past) (length (nodes_of p past)) ≤ 2 * points_in (own_lows p) (own_highs p) - 1 = room_within p s past l.1 in
-    let born : i < length (nodes_of p past) = out_born p past i seat (shape p s past l.1) l.0 in
-    let c : total (share p s (Back seat i ∷ past)) (length (nodes_of p past)) + share p s past i ≤ total (share p s past) (length (nodes_of p past)) + share p s (Back seat i ∷ past) i =
-    total-change (share p s past) (share p s (Back seat i ∷ past)) (length (nodes_of p past)) i born
-    (λ k b ne. let e : share p s (Back seat i ∷ past) k ≡ share p s past k = ap (λ t. share_in t (is_open p s past k) (node_points p past k)) (state_kept k i (state_of past k) waiting (λ h. ne (sym h))) in omega (arith, e)) in
-    let was : share p s past i ≡ 2 * node_points p past i - 2 = ap (λ t. share_in t (is_open p s past i) (node_points p past i)) l.0 in
-    let is : share p s (Back seat i ∷ past) i ≡ share_in waiting (is_open p s past i) (node_points p past i) =
-    ap (λ t. share_in t (is_open p s past i) (node_points p past i)) (cond-true (i == i) waiting (state_of past i) (eq-eqb i i refl)) in
-    let now : share_in waiting (is_open p s past i) (node_points p past i) ≤ 2 * node_points p past i - 1 = share-waiting (is_open p s past i) (node_points p past i) in
-    let outs : total (out_one past) (length (nodes_of p past)) ≤ used_of past = outs_used p s past l.1 in
-    let one : out_one past i ≡ 1 = ap (λ t. one_if (is_out t)) l.0 in
-    let some : out_one past i ≤ total (out_one past) (length (nodes_of p past)) = total-at (out_one past) (length (nodes_of p past)) i born in
-    omega (arith, ih, c, was, is, now, outs, one, some)
-room_within p s (Encode seat i form ∷ past) l = room_within p s past l.1
-room_within p s (Free seat ids ∷ past) l =
-    let ih : used_of past + total (share p s past) (length (nodes_of p past)) ≤ 2 * points_in (own_lows p) (own_highs p) - 1 = room_within p s past l.1 in
-    let c : total (share p s (Free seat ids ∷ past)) (length (nodes_of p past)) ≤ total (share p s past) (length (nodes_of p past)) =
-    total-le (share p s past) (share p s (Free seat ids ∷ past)) (length (nodes_of p past))
-    (λ k b. by_test (λ (t : State). share_in t (is_open p s past k) (node_points p past k) ≤ share p s past k) (is_among k ids) freed (state_of past k) (λ _. omega arith) (λ _. omega arith)) in
-    omega (arith, ih, c)
-room_within p s (Put seat i found low next ∷ past) l =
-    let ih : used_of past + total (share p s past) (length (nodes_of p past)) ≤ 2 * points_in (own_lows p) (own_highs p) - 1 = room_within p s past l.1 in
-    let new : List Entry = Put seat i found low next ∷ past in
-    let born : i < length (nodes_of p past) = out_born p past i seat (shape p s past l.1) l.0.is_out in
-    let c : total (share p s new) (length (nodes_of p past)) + share p s past i ≤ total (share p s past) (length (nodes_of p past)) + share p s new i =
-    total-change (share p s past) (share p s new) (length (nodes_of p past)) i born (λ k b ne. share-put p s past seat i found low next k b ne) in
-    let was : share p s past i ≡ 2 * node_points p past i - 2 = ap (λ t. share_in t (is_open p s past i) (node_points p past i)) l.0.is_out in
-    let now : share p s new i ≡ 0 =
-    ap (λ t. share_in t (is_open p s new i) (node_points p new i)) (cond-true (i == i) (put_state next) (state_of past i) (eq-eqb i i refl))
-    ∙ put_state-no_share next (is_open p s new i) (node_points p new i) in
-    let d : total (share p s new) (length (nodes_of p new)) ≤ total (share p s new) (length (nodes_of p past)) + (2 * node_points p past i - 2) = children next l.0 in
-    omega (arith, ih, c, was, now, d)
+    → IsWithinPoints p s past
+room_within p s = each_past p s (IsWithinPoints p s) first step
   where
-    children : (next : Step) → MayPut p s past seat i found low next
-        → total (share p s (Put seat i found low next ∷ past)) (length (nodes_of p (Put seat i found low next ∷ past)))
-        ≤ total (share p s (Put seat i found low next ∷ past)) (length (nodes_of p past)) + (2 * node_points p past i - 2)
-    children Shut may = omega arith
-    children (Split common column at) may =
-        let new : List Entry = Put seat i found low (Split common column at) ∷ past in
-        let n : ℕ = length (nodes_of p past) in
-        let len = length-append (nodes_of p past) (left_of (node_at p past i) i low common column at ∷ right_of (node_at p past i) i low common column at ∷ []) in
-        let two : total (share p s new) (length (nodes_of p new)) ≡ (total (share p s new) n + share p s new n) + share p s new (n + 1) = total-two (share p s new) n (length (nodes_of p new)) len in
-        let wl : state_of new n ≡ waiting = unborn_state p s past seat i found low (Split common column at) l.1 may n (omega arith) in
-        let wr : state_of new (n + 1) ≡ waiting = unborn_state p s past seat i found low (Split common column at) l.1 may (n + 1) (omega arith) in
-        let a : share p s new n ≡ share_in waiting (is_open p s new n) (node_points p new n) = ap (λ t. share_in t (is_open p s new n) (node_points p new n)) wl in
-        let a' : share_in waiting (is_open p s new n) (node_points p new n) ≤ 2 * node_points p new n - 1 = share-waiting (is_open p s new n) (node_points p new n) in
-        let b : share p s new (n + 1) ≡ share_in waiting (is_open p s new (n + 1)) (node_points p new (n + 1)) = ap (λ t. share_in t (is_open p s new (n + 1)) (node_points p new (n + 1))) wr in
-        let b' : share_in waiting (is_open p s new (n + 1)) (node_points p new (n + 1)) ≤ 2 * node_points p new (n + 1) - 1 = share-waiting (is_open p s new (n + 1)) (node_points p new (n + 1)) in
-        let h : SplitPoints p s past i (node_points p new n) (node_points p new (n + 1)) = split_points p s past seat i found low common column at may in
-        let adds : node_points p new n + node_points p new (n + 1) ≡ h.whole = h.halves.adds in
-        let fewer : h.whole ≤ node_points p past i = h.fewer in
-        elim h.halves.both [
-          | inl z ↦ omega (arith, two, a, a', b, b', adds, fewer, z)
-          | inr q ↦ let q0 : 0 < node_points p new n = q.0 in let q1 : 0 < node_points p new (n + 1) = q.1 in omega (arith, two, a, a', b, b', adds, fewer, q0, q1)
-        ]
+    first : IsWithinPoints p s []
+    first = let h : share p s [] 0 ≤ 2 * points_in (own_lows p) (own_highs p) - 1 =
+        share-waiting (is_open p s [] 0) (node_points p [] 0) in omega (arith, h)
 
-pub within_budget : (p : Program) (s : Settings) (past : List Entry) → IsLegalPast p s past → used_of past + room_of p s past ≤ 2 * points_in (own_lows p) (own_highs p) - 1
+    -- the part of a node that is out
+    share_out : (past : List Entry) (i seat : ℕ) → state_of past i ≡ out seat → share p s past i
+        ≡ 2 * node_points p past i - 2
+    share_out past i seat o = ap (λ t. share_in t (is_open p s past i) (node_points p past i)) o
+
+    step : (past : List Entry) (e : Entry) → IsLegalPast p s past → IsAllowed p s past e
+        → IsWithinPoints p s past → IsWithinPoints p s (e ∷ past)
+    step past (Take seat i) l a ih =
+        let g = take_gives p s past i a in
+        let c : shares_of p s (Take seat i ∷ past) + share p s past i ≤ shares_of p s past
+        + (2 * node_points p past i - 2) =
+        one_moves share_in share_counts p s past (Take seat i) i (out seat) g.born (λ k. refl) in
+        let was : share p s past i ≡ 2 * node_points p past i - 1 =
+        ap (λ t. share_in t (is_open p s past i) (node_points p past i))
+        (is_waiting-is (state_of past i) g.waits)
+        ∙ ap (λ b. share_in waiting b (node_points p past i)) g.open_node in
+        let some : 0 < node_points p past i = has_point-points _ _
+        (and_parts (has_point (full_of p past i).lows (full_of p past i).highs)
+        (is_below (node_at p past i).low (cutoff_for p s past)) g.open_node).0 in
+        omega (arith, ih, c, was, some)
+    step past (Back seat i) l a ih =
+        let born : i < length (nodes_of p past) = out_born p past i seat (shape p s past l) a in
+        let c : shares_of p s (Back seat i ∷ past) + share p s past i ≤ shares_of p s past
+        + share_in waiting (is_open p s past i) (node_points p past i) =
+        one_moves share_in share_counts p s past (Back seat i) i waiting born (λ k. refl) in
+        let was : share p s past i ≡ 2 * node_points p past i - 2 = share_out past i seat a in
+        let now : share_in waiting (is_open p s past i) (node_points p past i)
+        ≤ 2 * node_points p past i - 1 =
+        share-waiting (is_open p s past i) (node_points p past i) in
+        let used : outs_of p past ≤ used_of past = outs_used p s past l in
+        let one : out_one past i ≡ 1 = ap (λ t. one_if (is_out t)) a in
+        let some : out_one past i ≤ outs_of p past =
+        total-at (out_one past) (length (nodes_of p past)) i born in
+        omega (arith, ih, c, was, now, used, one, some)
+    step past (Encode seat i form) l a ih = ih
+    step past (Free seat ids) l a ih = let c : shares_of p s (Free seat ids ∷ past)
+        ≤ shares_of p s past = frees_fall share_in share_counts p s past seat ids in omega
+        (arith, ih, c)
+    step past (Put seat i found low Shut) l a ih =
+        let c : shares_of p s (Put seat i found low Shut ∷ past) + share p s past i
+        ≤ shares_of p s past =
+        put_moves share_in share_counts p s past seat i found low Shut
+        (out_born p past i seat (shape p s past l) a.is_out) in
+        omega (arith, ih, c)
+    step past (Put seat i found low (Split common column at)) l a ih =
+        let put : SplitPut p s past = record {
+          seat = seat;
+          id = i;
+          found = found;
+          low =
+              low;
+          common = common;
+          column = column;
+          at = at;
+          may = a;
+        } in
+        let c : total (share p s (with_split put)) (length (nodes_of p past)) + share p s past i
+        ≤ shares_of p s past =
+        put_moves share_in share_counts p s past seat i found low (Split common column at)
+        (out_born p past i seat (shape p s past l) a.is_out) in
+        let was : share p s past i ≡ 2 * node_points p past i - 2 =
+        share_out past i seat a.is_out in
+        let d : shares_of p s (with_split put) ≤ total (share p s (with_split put))
+        (length (nodes_of p past)) + (2 * node_points p past i - 2) =
+        children_share p s past put l in
+        omega (arith, ih, c, was, d)
+
+pub within_budget : (p : Program) (s : Settings) (past : List Entry) → IsLegalPast p s past
+    → used_of past + room_of p s past ≤ 2 * points_in (own_lows p) (own_highs p) - 1
 within_budget p s past l =
-    let e : room_of p s past ≡ total (share p s past) (length (nodes_of p past)) = sum_ids (share p s past) (length (nodes_of p past)) in
-    let h : used_of past + total (share p s past) (length (nodes_of p past)) ≤ 2 * points_in (own_lows p) (own_highs p) - 1 = room_within p s past l in
+    let e : room_of p s past ≡ total (share p s past) (length (nodes_of p past)) =
+    sum_ids (share p s past) (length (nodes_of p past)) in
+    let h : used_of past + total (share p s past) (length (nodes_of p past))
+    ≤ 2 * points_in (own_lows p) (own_highs p) - 1 = room_within p s past l in
     omega (arith, e, h)
 
-pub record NothingLives (p : Program) (s : Settings) (past : List Entry) : Type 0 where
-  pub none_used : used_of past ≡ 0
-  pub no_room : room_of p s past ≡ 0
-  pub none_live : (id : ℕ) → id < length (nodes_of p past) → is_live p s past id ≡ false
-
-pub nothing_lives : (p : Program) (s : Settings) (past : List Entry) → IsLegalPast p s past → points_in (own_lows p) (own_highs p) ≡ 0 → NothingLives p s past
+pub nothing_lives : (p : Program) (s : Settings) (past : List Entry) → IsLegalPast p s past
+    → points_in (own_lows p) (own_highs p) ≡ 0 → IsUnused p s past
 nothing_lives p s past l none =
-    let h : used_of past + room_of p s past ≤ 2 * points_in (own_lows p) (own_highs p) - 1 = within_budget p s past l in
+    let h : used_of past + room_of p s past ≤ 2 * points_in (own_lows p) (own_highs p) - 1 =
+    within_budget p s past l in
     record {
       none_used = omega (arith, h, none);
       no_room = omega (arith, h, none);
@@ -324,19 +470,26 @@ nothing_lives p s past l none =
     closed id =
         elim (cases_Bool (is_open p s past id)) [
           | inl t ↦
-              let some : 0 < node_points p past id = has_point-points _ _ (and_parts (has_point (full_of p past id).lows (full_of p past id).highs) (is_below (node_at p past id).low (cutoff_for p s past)) t).0 in
-              let few : node_points p past id ≤ points_in (own_lows p) (own_highs p) = node_points-le p past id in
+              let some : 0 < node_points p past id = has_point-points _ _
+              (and_parts (has_point (full_of p past id).lows (full_of p past id).highs)
+              (is_below (node_at p past id).low (cutoff_for p s past)) t).0 in
+              let few : node_points p past id ≤ points_in (own_lows p) (own_highs p) =
+              node_points-le p past id in
               absurd (omega (arith, some, few, none))
           | inr f ↦ f
         ]
 
-    not_live : (id : ℕ) → id < length (nodes_of p past) → (st : State) → state_of past id ≡ st → is_live p s past id ≡ false
+    not_live : (id : ℕ) → id < length (nodes_of p past) → (st : State) → state_of past id ≡ st
+        → is_live p s past id ≡ false
     not_live id born waiting e = ap (λ t. is_live_in t (is_open p s past id)) e ∙ closed id
     not_live id born (out seat) e =
-        let h : used_of past + room_of p s past ≤ 2 * points_in (own_lows p) (own_highs p) - 1 = within_budget p s past l in
-        let outs : total (out_one past) (length (nodes_of p past)) ≤ used_of past = outs_used p s past l in
+        let h : used_of past + room_of p s past ≤ 2 * points_in (own_lows p) (own_highs p) - 1 =
+        within_budget p s past l in
+        let outs : total (out_one past) (length (nodes_of p past)) ≤ used_of past =
+        outs_used p s past l in
         let one : out_one past id ≡ 1 = ap (λ t. one_if (is_out t)) e in
-        let some : out_one past id ≤ total (out_one past) (length (nodes_of p past)) = total-at (out_one past) (length (nodes_of p past)) id born in
+        let some : out_one past id ≤ total (out_one past) (length (nodes_of p past)) =
+        total-at (out_one past) (length (nodes_of p past)) id born in
         absurd (omega (arith, h, none, outs, one, some))
     not_live id born split e = ap (λ t. is_live_in t (is_open p s past id)) e
     not_live id born shut e = ap (λ t. is_live_in t (is_open p s past id)) e

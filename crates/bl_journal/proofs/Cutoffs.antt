@@ -1,5 +1,7 @@
--- The best value only falls, so the cutoff of a node that is out is at least the best value less the gap.
-use Rattle.std.proofs.Common.{◌≡◌, ℕ, List, [], ◌∷◌, refl, arith, Bool, true, false, cond, Some, None, Option}
+-- The best value only falls, so the cutoff of a node that is out is at least the best value less
+-- the gap.
+use Rattle.std.proofs.Common.{◌≡◌, ℕ, List, ◌∷◌, refl, sym, ◌∙◌, arith, true, Some, None, Option}
+use Rattle.std.proofs.lemmas.Bool.{eq-eqb, true≢false}
 use Rattle.std.specs.Prelude.{IfSome, ◌==◌, ℤ, pos, ◌-ℤ◌, ◌≤ℤ◌, ◌<ℤ◌, int_lt}
 use Rattle.std.specs.Int.{int_min}
 use Rattle.std.proofs.lemmas.Int.{ints, clamps}
@@ -7,16 +9,19 @@ use Rattle.bl_problem.specs.Program.{Program}
 use Rattle.bl_problem.specs.Points.{value_of}
 use Rattle.bl_journal.specs.declared.entry.Entry.{Entry}
 use Rattle.bl_journal.specs.declared.entry.Entry.TheVariants.{Take, Put, Back, Encode, Free}
-use Rattle.bl_journal.specs.declared.entry.Step.{Step}
-use Rattle.bl_journal.specs.declared.entry.Step.TheVariants.{Shut, Split}
 use Rattle.bl_journal.specs.Soundness.{cutoff_with}
 use Rattle.bl_journal.specs.declared.settings.Settings.{Settings}
-use Rattle.bl_journal.specs.States.{State, waiting, out, freed, state_of, put_state, Found, best_with, best_after, best_of, value_less, cutoff_for, cutoff_of, is_below}
-use Rattle.bl_mods.specs.Mods.{is_among}
+use Rattle.bl_journal.specs.Legality.{IsLegalPast}
+use Rattle.bl_journal.specs.States.{state_of, Found, best_with, best_after, best_of, value_less}
+use Rattle.bl_journal.specs.States.{cutoff_for, cutoff_of, is_below}
+use Rattle.bl_journal.specs.declared.state.State.TheVariants.{Out as out}
 use Rattle.bl_journal.proofs.Leaves.{by_test}
+use Rattle.bl_journal.proofs.Induction.{each_out}
 
 -- a value below the new best less the gap is below the old one less the gap
-pub below_before : (p : Program) (gap : ℤ) (best : Option Found) (e : Entry) (v : ℤ) → is_below v (value_less gap (best_after p best e)) ≡ true → is_below v (value_less gap best) ≡ true
+pub below_before : (p : Program) (gap : ℤ) (best : Option Found) (e : Entry) (v : ℤ)
+    → is_below v (value_less gap (best_after p best e)) ≡ true → is_below v (value_less gap best)
+    ≡ true
 below_before p gap best (Take seat i) v h = h
 below_before p gap best (Back seat i) v h = h
 below_before p gap best (Encode seat i form) v h = h
@@ -25,8 +30,10 @@ below_before p gap best (Put seat i None low next) v h = h
 below_before p gap None (Put seat i (Some x) low next) v h = refl
 below_before p gap (Some b) (Put seat i (Some x) low next) v h =
     let f : Found = record { value = value_of p x; point = x } in
-    let P : Option Found → Type 0 = λ o. is_below v (value_less gap o) ≡ true → int_lt v (b.value -ℤ gap) ≡ true in
-    by_test P (int_lt f.value b.value) (Some f) (Some b) (λ t k. grind (arith, ints, t, k)) (λ _ k. k) h
+    let P : Option Found → Type 0 =
+    λ o. is_below v (value_less gap o) ≡ true → int_lt v (b.value -ℤ gap) ≡ true in
+    by_test P (int_lt f.value b.value) (Some f) (Some b) (λ t k. grind (arith, ints, t, k))
+    (λ _ k. k) h
 
 -- the best value less the gap is at most the cutoff
 abbrev pub BestWithin : ℤ → Option Found → Option ℤ → Type 0
@@ -38,7 +45,8 @@ pub BestWithin-self : (gap : ℤ) (best : Option Found) → BestWithin gap best 
 BestWithin-self gap None = tt
 BestWithin-self gap (Some b) = omega (arith, ints)
 
-pub BestWithin-falls : (p : Program) (gap : ℤ) (best : Option Found) (c : Option ℤ) (e : Entry) → BestWithin gap best c → BestWithin gap (best_after p best e) c
+pub BestWithin-falls : (p : Program) (gap : ℤ) (best : Option Found) (c : Option ℤ) (e : Entry)
+    → BestWithin gap best c → BestWithin gap (best_after p best e) c
 BestWithin-falls p gap best None e w = tt
 BestWithin-falls p gap None (Some c) e w = absurd w
 BestWithin-falls p gap (Some b) (Some c) (Take seat i) w = w
@@ -52,8 +60,10 @@ BestWithin-falls p gap (Some b) (Some c) (Put seat i (Some x) low next) w =
     by_test P (int_lt f.value b.value) (Some f) (Some b) (λ t. grind (arith, ints, t, w)) (λ _. w)
 
 -- what is below the best value less the gap after a put is below the put's own cutoff
-pub below_cutoff : (p : Program) (gap : ℤ) (best : Option Found) (c : Option ℤ) (found : Option (List ℤ)) (v : ℤ) → pos 0 ≤ℤ gap → BestWithin gap best c
-    → is_below v (value_less gap (best_with p best found)) ≡ true → IfSome (cutoff_with p c found) (λ d. v <ℤ d)
+pub below_cutoff : (p : Program) (gap : ℤ) (best : Option Found) (c : Option ℤ)
+    (found : Option (List ℤ)) (v : ℤ) → pos 0 ≤ℤ gap → BestWithin gap best c
+    → is_below v (value_less gap (best_with p best found)) ≡ true
+    → IfSome (cutoff_with p c found) (λ d. v <ℤ d)
 below_cutoff p gap best None None v g w h = tt
 below_cutoff p gap None (Some c) found v g w h = absurd w
 below_cutoff p gap (Some b) (Some c) None v g w h = grind (arith, ints, w, h)
@@ -61,39 +71,38 @@ below_cutoff p gap None None (Some x) v g w h = grind (arith, ints, g, h)
 below_cutoff p gap (Some b) None (Some x) v g w h =
     let f : Found = record { value = value_of p x; point = x } in
     let P : Option Found → Type 0 = λ o. is_below v (value_less gap o) ≡ true → v <ℤ value_of p x in
-    by_test P (int_lt f.value b.value) (Some f) (Some b) (λ t k. grind (arith, ints, g, k)) (λ t k. grind (arith, ints, g, t, k)) h
+    by_test P (int_lt f.value b.value) (Some f) (Some b) (λ t k. grind (arith, ints, g, k))
+    (λ t k. grind (arith, ints, g, t, k)) h
 below_cutoff p gap (Some b) (Some c) (Some x) v g w h =
     let f : Found = record { value = value_of p x; point = x } in
-    let P : Option Found → Type 0 = λ o. is_below v (value_less gap o) ≡ true → v <ℤ int_min c (value_of p x) in
-    by_test P (int_lt f.value b.value) (Some f) (Some b) (λ t k. below_min v c f.value (grind (arith, ints, t, k, w)) (grind (arith, ints, g, k))) (λ t k. below_min v c f.value (grind (arith, ints, k, w)) (grind (arith, ints, g, t, k))) h
+    let P : Option Found → Type 0 =
+    λ o. is_below v (value_less gap o) ≡ true → v <ℤ int_min c (value_of p x) in
+    by_test P (int_lt f.value b.value) (Some f) (Some b) (λ t k. below_min v c f.value
+    (grind (arith, ints, t, k, w)) (grind (arith, ints, g, k)))
+    (λ t k. below_min v c f.value (grind (arith, ints, k, w)) (grind (arith, ints, g, t, k))) h
   where
     below_min : (v c d : ℤ) → v <ℤ c → v <ℤ d → v <ℤ int_min c d
     below_min v c d m n = omega (arith, ints, clamps, m, n)
 
+cutoff_kept : (p : Program) (s : Settings) (past : List Entry) (e : Entry) (id : ℕ)
+    → BestWithin s.gap (best_of p past) (cutoff_of p s past id)
+    → BestWithin s.gap (best_of p (e ∷ past)) (cutoff_of p s (e ∷ past) id)
+cutoff_kept p s past (Take t i) id w = by_test (BestWithin s.gap (best_of p past)) (i == id)
+    (cutoff_for p s past) (cutoff_of p s past id) (λ _. BestWithin-self s.gap (best_of p past))
+    (λ _. w)
+cutoff_kept p s past (Put t i found low next) id w =
+    BestWithin-falls p s.gap (best_of p past) (cutoff_of p s past id) (Put t i found low next) w
+cutoff_kept p s past (Back t i) id w = w
+cutoff_kept p s past (Encode t i form) id w = w
+cutoff_kept p s past (Free t ids) id w = w
+
 -- the best value less the gap is at most the cutoff of a node that is out
-pub cutoff_holds : (p : Program) (s : Settings) (past : List Entry) (id seat : ℕ) → state_of past id ≡ out seat → BestWithin s.gap (best_of p past) (cutoff_of p s past id)
-cutoff_holds p s [] id seat o = cc
-cutoff_holds p s (Take t i ∷ past) id seat o =
-    let go : (b : Bool) → cond b (out t) (state_of past id) ≡ out seat → BestWithin s.gap (best_of p past) (cond b (cutoff_for p s past) (cutoff_of p s past id)) =
-    λ b. elim b as (λ v. cond v (out t) (state_of past id) ≡ out seat → BestWithin s.gap (best_of p past) (cond v (cutoff_for p s past) (cutoff_of p s past id))) [
-      | true ↦ λ _. BestWithin-self s.gap (best_of p past)
-      | false ↦ λ h. cutoff_holds p s past id seat h
-    ] in
-    go (i == id) o
-cutoff_holds p s (Back t i ∷ past) id seat o =
-    let P : State → Type 0 = λ s. s ≡ out seat → state_of past id ≡ out seat in
-    let h : state_of past id ≡ out seat = by_test P (i == id) waiting (state_of past id) (λ _ k. cc) (λ _ k. k) o in
-    cutoff_holds p s past id seat h
-cutoff_holds p s (Encode t i form ∷ past) id seat o = cutoff_holds p s past id seat o
-cutoff_holds p s (Free t ids ∷ past) id seat o =
-    let P : State → Type 0 = λ s. s ≡ out seat → state_of past id ≡ out seat in
-    let h : state_of past id ≡ out seat = by_test P (is_among id ids) freed (state_of past id) (λ _ k. cc) (λ _ k. k) o in
-    cutoff_holds p s past id seat h
-cutoff_holds p s (Put t i found low next ∷ past) id seat o =
-    let P : State → Type 0 = λ s. s ≡ out seat → state_of past id ≡ out seat in
-    let h : state_of past id ≡ out seat = by_test P (i == id) (put_state next) (state_of past id) (λ _ k. not_out next k) (λ _ k. k) o in
-    BestWithin-falls p s.gap (best_of p past) (cutoff_of p s past id) (Put t i found low next) (cutoff_holds p s past id seat h)
-  where
-    not_out : {X : Type 0} (next : Step) → put_state next ≡ out seat → X
-    not_out Shut k = cc
-    not_out (Split common column at) k = cc
+pub cutoff_holds : (p : Program) (s : Settings) (past : List Entry) → IsLegalPast p s past
+    → (id seat : ℕ) → state_of past id ≡ out seat
+    → BestWithin s.gap (best_of p past) (cutoff_of p s past id)
+cutoff_holds p s =
+    each_out p s (λ h k. BestWithin s.gap (best_of p h) (cutoff_of p s h k))
+    (λ h seat k given. by_test (BestWithin s.gap (best_of p h)) (k == k) (cutoff_for p s h)
+    (cutoff_of p s h k) (λ _. BestWithin-self s.gap (best_of p h))
+    (λ e. absurd (true≢false (sym (eq-eqb k k refl) ∙ e))))
+    (λ h e k born w. cutoff_kept p s h e k w)

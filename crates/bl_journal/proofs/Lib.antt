@@ -1,21 +1,24 @@
 pub mod Growth
 pub mod Living
 pub mod Leaves
-pub mod Cutoffs
-pub mod Coverage
+pub mod Induction
+mod Cutoffs
+mod Coverage
 pub mod Meaning
-pub mod Children
+mod Children
 pub mod Sums
 pub mod Budget
 pub mod Lines
 pub mod Ties
 pub mod Chains
-pub mod Ranges
+mod Ranges
 pub mod Workable
 pub mod Rows
 pub mod Births
-pub mod Ends
+mod Ends
 pub mod Newborns
 pub mod Upkeep
 pub mod Nothing
-pub mod Named
+mod Named
+pub mod Others
+pub mod Endings

@@ -1,58 +1,54 @@
 -- The ids of a node's cuts are among those that puts have added.
-use Rattle.std.proofs.Common.{◌≡◌, ℕ, zero, suc, ◌<◌, List, [], ◌∷◌, ◌++◌, length, refl, ap, sym, ◌∙◌, subst, arith, map}
+use Rattle.std.proofs.Common.{ℕ, List, [], ◌∷◌, ◌++◌, sym, subst, map}
+use Rattle.std.specs.Prelude.{Contains}
+use Rattle.std.proofs.lemmas.List.Elements.{All-contains_itself, Contains-append_left}
+use Rattle.std.proofs.lemmas.List.Elements.{Contains-append_right}
 use Rattle.bl_mods.specs.declared.mods.ItemId.{ItemId}
-use Rattle.bl_mods.specs.Mods.{relisted}
 use Rattle.bl_problem.specs.Program.{Program}
 use Rattle.bl_problem.specs.declared.cut.Cut.{Cut}
-use Rattle.bl_desc.specs.declared.desc.Desc.{Desc}
-use Rattle.bl_desc.specs.declared.change.Change.{Change}
 use Rattle.bl_journal.specs.declared.entry.Entry.{Entry}
-use Rattle.bl_journal.specs.declared.entry.Entry.TheVariants.{Take, Put, Back, Encode, Free}
-use Rattle.bl_journal.specs.declared.entry.Step.TheVariants.{Shut, Split}
 use Rattle.bl_journal.specs.declared.settings.Settings.{Settings}
-use Rattle.bl_journal.specs.Births.{Node, Branch, nodes_of, node_at, root_node, left_branch, right_branch}
-use Rattle.bl_journal.specs.Descriptions.{full_of, full_along, root_desc}
-use Rattle.bl_journal.specs.Legality.{IsLegalPast, ids_added}
-use Rattle.bl_journal.proofs.Living.{Each, Each-append}
-use Rattle.bl_journal.proofs.Leaves.{shape, out_born, left_of, right_of, after_split}
-use Rattle.bl_journal.proofs.Children.{changed_along-push}
-use Rattle.bl_journal.proofs.Workable.{Each-kept}
+use Rattle.bl_journal.specs.Births.{IsBorn}
+use Rattle.bl_journal.specs.Descriptions.{full_of, full_along}
+use Rattle.bl_journal.specs.Legality.{IsLegalPast, added_by, ids_added}
+use Rattle.bl_journal.proofs.Living.{Each, Each-append, Each-weaken}
+use Rattle.bl_journal.proofs.Induction.{each_node}
+use Rattle.bl_journal.proofs.Children.{child_list}
+use Rattle.bl_journal.proofs.Workable.{Each-from_all, Each-kept}
 
-Each-parts : {X : Type 0} (P : X → Type 0) (xs ys : List X) → Each P (xs ++ ys) → Each P xs × Each P ys
-Each-parts P [] ys a = (tt, a)
-Each-parts P (x ∷ xs) ys a = let r = Each-parts P xs ys a.1 in ((a.0, r.0), r.1)
-
-Each-mapped : {X Y : Type 0} (P : Y → Type 0) (f : X → Y) (xs : List X) → Each P (map f xs) → Each (λ x. P (f x)) xs
+Each-mapped : {X Y : Type 0} (P : Y → Type 0) (f : X → Y) (xs : List X) → Each P (map f xs)
+    → Each (λ x. P (f x)) xs
 Each-mapped P f [] a = tt
 Each-mapped P f (x ∷ xs) a = (a.0, Each-mapped P f xs a.1)
 
-child_named : (p : Program) (past : List Entry) (P : ItemId → Type 0) (i : ℕ) (common : Change Cut) (branch : Branch) → branch.common ≡ common → Each (λ (c : Cut). P c.id) common.cuts.added
-    → Each (λ (c : Cut). P c.id) (full_of p past i).cuts → Each (λ (c : Cut). P c.id) (full_along p ((node_at p past i).path ++ branch ∷ [])).cuts
-child_named p past P i common branch same added here =
-    let pushed : (full_along p ((node_at p past i).path ++ branch ∷ [])).cuts ≡ relisted branch.common.cuts (full_of p past i).cuts =
-    ap (λ (d : Desc Cut). d.cuts) (changed_along-push (root_desc p) (node_at p past i).path branch) in
-    let is : (full_along p ((node_at p past i).path ++ branch ∷ [])).cuts ≡ relisted common.cuts (full_of p past i).cuts =
-    pushed ∙ ap (λ (c : Change Cut). relisted c.cuts (full_of p past i).cuts) same in
-    subst (Each (λ (c : Cut). P c.id)) (sym is)
-    (Each-append (λ (c : Cut). P c.id) _ _ (Each-kept (λ (c : Cut). P c.id) 0 common.cuts.dropped (full_of p past i).cuts here) added)
+-- its id is among those that were added
+abbrev pub WasAdded : List Entry → Cut → Type 0
+WasAdded past c = Contains (ids_added past) c.id
 
--- what holds of all added ids holds of the ids of a node's cuts
-pub named : (p : Program) (s : Settings) (past : List Entry) (P : ItemId → Type 0) → IsLegalPast p s past → Each P (ids_added past) → (id : ℕ) → id < length (nodes_of p past) → Each (λ (c : Cut). P c.id) (full_of p past id).cuts
-named p s [] P l a zero h = tt
-named p s [] P l a (suc id) h = absurd (omega (arith, h))
-named p s (Take seat i ∷ past) P l a id h = named p s past P l.1 a id h
-named p s (Back seat i ∷ past) P l a id h = named p s past P l.1 a id h
-named p s (Encode seat i form ∷ past) P l a id h = named p s past P l.1 a id h
-named p s (Free seat ids ∷ past) P l a id h = named p s past P l.1 a id h
-named p s (Put seat i found low Shut ∷ past) P l a id h = named p s past P l.1 a id h
-named p s (Put seat i found low (Split common column at) ∷ past) P l a id h =
-    let born : i < length (nodes_of p past) = out_born p past i seat (shape p s past l.1) l.0.is_out in
-    let parts = Each-parts P (map (λ (c : Cut). c.id) common.cuts.added) (ids_added past) a in
-    let added = Each-mapped P (λ (c : Cut). c.id) common.cuts.added parts.0 in
-    let parent = named p s past P l.1 parts.1 i born in
-    after_split (nodes_of p past) (left_of (node_at p past i) i low common column at) (right_of (node_at p past i) i low common column at) (root_node p) id
-    (λ (n : Node). Each (λ (c : Cut). P c.id) (full_along p n.path).cuts)
-    (λ k. named p s past P l.1 parts.1 id k)
-    (λ _. child_named p past P i common (left_branch common column at) refl added parent)
-    (λ _. child_named p past P i common (right_branch common column at) refl added parent)
-    h
+-- what was added before an entry was added after it
+added_later : (past : List Entry) (e : Entry) (cuts : List Cut) → Each (WasAdded past) cuts
+    → Each (WasAdded (e ∷ past)) cuts
+added_later past e cuts = Each-weaken (WasAdded past) (WasAdded (e ∷ past))
+    (λ c h. Contains-append_right (map (λ (k : Cut). k.id) (added_by e)) (ids_added past) c.id h)
+    cuts
+
+-- each cut of a node was added
+pub named : (p : Program) (s : Settings) (past : List Entry) → IsLegalPast p s past → (id : ℕ)
+    → IsBorn p past id → Each (WasAdded past) (full_of p past id).cuts
+named p s past l id born =
+    each_node p s (λ h k n. Each (WasAdded h) (full_along p n.path).cuts) (record {
+      root = tt;
+      kept = λ h e l a k b was. added_later h e _ was;
+      handed = λ h put b was d k under.
+          let new : List ItemId = map (λ (c : Cut). c.id) put.common.cuts.added in
+          let here : ItemId → Type 0 = Contains (new ++ ids_added h) in
+          let mine = Each-weaken (Contains new) here
+          (λ x m. Contains-append_left new (ids_added h) x m) new
+          (Each-from_all (Contains new) new (All-contains_itself new)) in
+          let P : Cut → Type 0 = λ c. here c.id in
+          subst (Each P) (sym (child_list p h put.id put.common d))
+          (Each-append P _ _ (Each-kept P 0 put.common.cuts.dropped (full_of p h put.id).cuts
+          (Each-weaken (WasAdded h) P (λ c m. Contains-append_right new (ids_added h) c.id m)
+          (full_of p h put.id).cuts was))
+          (Each-mapped here (λ (c : Cut). c.id) put.common.cuts.added mine));
+    }) past l id born

@@ -3,17 +3,19 @@ use Rattle.std.proofs.Common.{◌≡◌, pos, ℤ, ◌≤ℤ◌, List, [], ◌�
 use Rattle.std.specs.Prelude.{IfSome}
 use Rattle.std.proofs.lemmas.Int.{ints}
 use Rattle.std.proofs.lemmas.List.Elements.{All-cons, All-get_or, All-nil}
-use Rattle.bl_problem.specs.Points.{IsFeasible, value_of}
+use Rattle.bl_problem.specs.Points.{IsFeasible, InBox, value_of}
 use Rattle.bl_problem.specs.Rows.{MeetsRow}
 use Rattle.bl_desc.specs.Changes.{nothing}
 use Rattle.bl_desc.specs.declared.desc.Form.TheVariants.{Explicit}
-use Rattle.bl_desc.specs.declared.desc.Piece.TheVariants.{Explicit as ExplicitPiece, Relative as RelativePiece}
+use Rattle.bl_desc.specs.declared.desc.Piece.TheVariants.{Explicit as ExplicitPiece}
+use Rattle.bl_desc.specs.declared.desc.Piece.TheVariants.{Relative as RelativePiece}
 use Rattle.bl_journal.specs.declared.entry.Entry.{Entry}
 use Rattle.bl_journal.specs.declared.entry.Entry.TheVariants.{Take, Put, Back, Encode, Free}
 use Rattle.bl_journal.specs.declared.entry.Step.TheVariants.{Split}
 use Rattle.bl_journal.specs.declared.settings.Settings.{Settings}
 use Rattle.bl_pool.specs.declared.key.Order.TheVariants.{Best, Depth}
-use Rattle.bl_journal.specs.Covering.{covering, row, with_span, with_gap, high_four, point_if, low_if, IsRange}
+use Rattle.bl_journal.specs.Covering.{covering, row, with_span, with_gap, high_four, point_if}
+use Rattle.bl_journal.specs.Covering.{low_if, IsRange}
 use Rattle.bl_journal.specs.Descriptions.{full_of}
 use Rattle.bl_journal.specs.States.{used_of}
 use Rattle.bl_journal.specs.Replies.{take_reply, gives, idle, done, spent}
@@ -94,7 +96,8 @@ held_none = refl
 no_more : first_freeable covering (with_span 8) all_freed ≡ None
 no_more = refl
 
-answer_is : answer_of covering (with_span 8) all_freed ≡ optimal (record { value = pos 7; point = pos 2 ∷ pos 1 ∷ [] })
+answer_is : answer_of covering (with_span 8) all_freed
+    ≡ optimal (record { value = pos 7; point = pos 2 ∷ pos 1 ∷ [] })
 unfolding answer_of
 answer_is = refl
 
@@ -106,7 +109,8 @@ done_within_three : take_reply covering (with_gap (pos 3)) with_ten ≡ done
 unfolding take_reply
 done_within_three = refl
 
-within_three : answer_of covering (with_gap (pos 3)) with_ten ≡ within (record { value = pos 10; point = pos 2 ∷ pos 2 ∷ [] }) (pos 7)
+within_three : answer_of covering (with_gap (pos 3)) with_ten
+    ≡ within (record { value = pos 10; point = pos 2 ∷ pos 2 ∷ [] }) (pos 7)
 unfolding answer_of
 within_three = refl
 
@@ -117,7 +121,8 @@ one_at_two = refl
 room_at_start : room_of covering (with_span 8) [] ≡ 241
 room_at_start = refl
 
-spent_after_put : take_reply covering (record { nodes = 1; span = 1; order = Best; gap = pos 0 }) after_put ≡ spent
+spent_after_put : take_reply covering (record { nodes = 1; span = 1; order = Best; gap = pos 0 })
+    after_put ≡ spent
 unfolding take_reply
 spent_after_put = refl
 
@@ -135,14 +140,17 @@ one_again = refl
 used_three : used_of two_out ≡ 3
 used_three = refl
 
-depth_first : take_reply covering (record { nodes = 100; span = 8; order = Depth; gap = pos 0 }) after_put ≡ gives 1
+depth_first : take_reply covering (record { nodes = 100; span = 8; order = Depth; gap = pos 0 })
+    after_put ≡ gives 1
 unfolding take_reply
 depth_first = refl
 
-chain_of_one : chain_of covering (with_span 8) after_put 1 ≡ ExplicitPiece (full_of covering after_put 0) ∷ RelativePiece high_four ∷ []
+chain_of_one : chain_of covering (with_span 8) after_put 1
+    ≡ ExplicitPiece (full_of covering after_put 0) ∷ RelativePiece high_four ∷ []
 chain_of_one = refl
 
-rebuilt_one : rebuilt (chain_of covering (with_span 8) after_put 1) ≡ Some (full_of covering after_put 1)
+rebuilt_one : rebuilt (chain_of covering (with_span 8) after_put 1)
+    ≡ Some (full_of covering after_put 1)
 rebuilt_one = refl
 
 abbrev pub root_taken : List Entry
@@ -153,11 +161,13 @@ value_at_least : (x : List ℤ) → IsFeasible covering x → pos 7 ≤ℤ value
 value_at_least [] f = absurd f.box
 value_at_least (a ∷ []) f = absurd f.box.2
 value_at_least (a ∷ b ∷ []) f =
-    let met : MeetsRow (a ∷ b ∷ []) row = All-get_or (MeetsRow (a ∷ b ∷ [])) (row ∷ []) 0 row (omega arith) f.rows in
+    let met : MeetsRow (a ∷ b ∷ []) row =
+    All-get_or (MeetsRow (a ∷ b ∷ [])) (row ∷ []) 0 row (omega arith) f.rows in
     omega (arith, ints, met.low)
 value_at_least (a ∷ b ∷ c ∷ x) f = absurd f.box.2.2
 
-low_holds : (found : Option ℤ) (x : List ℤ) → IsFeasible covering x → low_if found ≤ℤ value_of covering x
+low_holds : (found : Option ℤ) (x : List ℤ) → IsFeasible covering x
+    → low_if found ≤ℤ value_of covering x
 low_holds (Some y) x f = value_at_least x f
 low_holds None x f = omega (arith, ints, value_at_least x f)
 
@@ -166,18 +176,26 @@ point_feasible y r =
     let low : pos 1 ≤ℤ y = r.0 in
     let high : y ≤ℤ pos 10 = r.1 in
     record {
-      box = (omega (arith, ints), omega (arith, ints), (omega (arith, ints, low), omega (arith, ints, high), tt));
-      rows = All-cons (MeetsRow (pos 2 ∷ y ∷ [])) row [] (record { low = omega (arith, ints, low); high = tt }) (All-nil (MeetsRow (pos 2 ∷ y ∷ [])));
+      box = (
+        omega (arith, ints),
+        omega (arith, ints),
+        (omega (arith, ints, low), omega (arith, ints, high), tt),
+      );
+      rows = All-cons (MeetsRow (pos 2 ∷ y ∷ [])) row []
+          (record { low = omega (arith, ints, low); high = tt })
+          (All-nil (MeetsRow (pos 2 ∷ y ∷ [])));
     }
 
-split_sound : (found : Option ℤ) → IfSome found IsRange → IsSound covering (full_of covering root_taken 0) None (point_if found) (low_if found) (Split nothing 0 (pos 4))
-split_sound (Some y) r =
-    let feasible = point_feasible y r in
+split_sound : (found : Option ℤ) → IfSome found IsRange
+    → IsSound covering (full_of covering root_taken 0) None (point_if found) (low_if found)
+    (Split nothing 0 (pos 4))
+split_sound found r =
     record {
-      found_ok = (feasible, feasible.box);
-      low_ok = λ x q. low_holds (Some y) x q.feasible;
+      found_ok = by_found found r;
+      low_ok = λ x q. low_holds found x q.feasible;
       next_ok = record {
-        common_fits = nothing_fits (full_of covering root_taken 0) (λ i j a b h k. absurd (omega (arith, h))) (omega arith);
+        common_fits = nothing_fits (full_of covering root_taken 0)
+            (λ i j a b h k. absurd (omega (arith, h))) (omega arith);
         meets = λ x q. tt;
         cuts_suit = λ k e i. absurd (omega (arith, i));
         cuts_valid = λ k e i. absurd (omega (arith, i));
@@ -186,23 +204,16 @@ split_sound (Some y) r =
         below_high = omega (arith, ints);
       };
     }
-split_sound None r =
-    record {
-      found_ok = tt;
-      low_ok = λ x q. low_holds None x q.feasible;
-      next_ok = record {
-        common_fits = nothing_fits (full_of covering root_taken 0) (λ i j a b h k. absurd (omega (arith, h))) (omega arith);
-        meets = λ x q. tt;
-        cuts_suit = λ k e i. absurd (omega (arith, i));
-        cuts_valid = λ k e i. absurd (omega (arith, i));
-        column_in = omega arith;
-        low_at_most = omega (arith, ints);
-        below_high = omega (arith, ints);
-      };
-    }
+  where
+    by_found : (o : Option ℤ) → IfSome o IsRange → IfSome (point_if o)
+        (λ x. IsFeasible covering x × InBox (full_of covering root_taken 0).lows
+        (full_of covering root_taken 0).highs x)
+    by_found None h = tt
+    by_found (Some y) h = let feasible = point_feasible y h in (feasible, feasible.box)
 
 -- the root may be split so, with a point or without one
-pub split_may : (s : Settings) (found : Option ℤ) → IfSome found IsRange → MayPut covering s root_taken 0 0 (point_if found) (low_if found) (Split nothing 0 (pos 4))
+pub split_may : (s : Settings) (found : Option ℤ) → IfSome found IsRange
+    → MayPut covering s root_taken 0 0 (point_if found) (low_if found) (Split nothing 0 (pos 4))
 split_may s found r =
     record {
       is_out = refl;

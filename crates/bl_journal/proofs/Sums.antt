@@ -1,5 +1,6 @@
 -- Sums over the numbers below one.
-use Rattle.std.proofs.Common.{◌≡◌, ℕ, zero, suc, ◌+◌, ◌<◌, ◌≤◌, refl, ap, ◌∙◌, arith, inl, inr, Bool, cond}
+use Rattle.std.proofs.Common.{◌≡◌, ℕ, zero, suc, ◌+◌, ◌<◌, ◌≤◌, refl, ap, ◌∙◌, arith, inl, inr}
+use Rattle.std.proofs.Common.{Bool, cond}
 use Rattle.std.specs.Prelude.{sum_by}
 use Rattle.std.proofs.lemmas.Bool.{cases_lt}
 use Rattle.std.proofs.lemmas.List.Sums.{sum_by_push}
@@ -28,23 +29,27 @@ total-at f zero i b = absurd (omega (arith, b))
 total-at f (suc n) i b =
     elim (cases_lt i n) [
       | inl c ↦ let ih : f i ≤ total f n = total-at f n i c in omega (arith, ih)
-      | inr c ↦ let e : i ≡ n = omega (arith, b, c) in let same : f i ≡ f n = ap f e in omega (arith, same)
+      | inr c ↦ let e : i ≡ n = omega (arith, b, c) in let same : f i ≡ f n =
+          ap f e in omega (arith, same)
     ]
 
 -- where all but one grow no more, the sum changes by at most what that one does
-pub total-change : (f g : ℕ → ℕ) (n i : ℕ) → i < n → ((k : ℕ) → k < n → (k ≡ i → ⊥) → g k ≤ f k) → total g n + f i ≤ total f n + g i
+pub total-change : (f g : ℕ → ℕ) (n i : ℕ) → i < n → ((k : ℕ) → k < n → (k ≡ i → ⊥) → g k ≤ f k)
+    → total g n + f i ≤ total f n + g i
 total-change f g zero i b h = absurd (omega (arith, b))
 total-change f g (suc n) i b h =
     elim (cases_lt i n) [
       | inl c ↦
-          let ih : total g n + f i ≤ total f n + g i = total-change f g n i c (λ k d ne. h k (omega (arith, d)) ne) in
+          let ih : total g n + f i ≤ total f n + g i =
+          total-change f g n i c (λ k d ne. h k (omega (arith, d)) ne) in
           let here : g n ≤ f n = h n (omega arith) (λ e. omega (arith, e, c)) in
           omega (arith, ih, here)
       | inr c ↦
           let e : i ≡ n = omega (arith, b, c) in
           let same : f i ≡ f n = ap f e in
           let same' : g i ≡ g n = ap g e in
-          let rest : total g n ≤ total f n = total-le f g n (λ k d. h k (omega (arith, d)) (λ j. omega (arith, j, e, d))) in
+          let rest : total g n ≤ total f n =
+          total-le f g n (λ k d. h k (omega (arith, d)) (λ j. omega (arith, j, e, d))) in
           omega (arith, rest, same, same')
     ]
 

@@ -1,5 +1,6 @@
 -- The nodes that a history makes. A history is read backward here: its last entry comes first.
-use Rattle.std.specs.Prelude.{ℕ, ◌+◌, ℤ, pos, ◌+ℤ◌, List, [], ◌∷◌, ◌++◌, Option, Some, None, slice_index_or}
+use Rattle.std.specs.Prelude.{ℕ, ◌+◌, ◌<◌, length, ℤ, pos, ◌+ℤ◌, List, [], ◌∷◌, ◌++◌, Option, Some}
+use Rattle.std.specs.Prelude.{None, slice_index_or}
 use Rattle.std.specs.Int.{int_max}
 use Rattle.bl_problem.specs.Program.{Program}
 use Rattle.bl_problem.specs.Points.{own_lows, own_highs, trivial_bound_of}
@@ -12,7 +13,8 @@ use Rattle.bl_journal.specs.declared.entry.Entry.TheVariants.{Take, Put, Back, E
 use Rattle.bl_journal.specs.declared.entry.Step.{Step}
 use Rattle.bl_journal.specs.declared.entry.Step.TheVariants.{Shut, Split}
 
--- a step down from a node to its child: the change that both children share, then the split's decision
+-- a step down from a node to its child: the change that both children share, then the split's
+-- decision
 pub record Branch : Type 0 where
   pub common : Change Cut
   pub decision : Decision
@@ -27,7 +29,13 @@ pub record Node : Type 0 where
 
 abbrev pub root_node : Program → Node
 root_node p =
-    record { parent = None; ancestors = []; depth = 0; low = trivial_bound_of p (own_lows p) (own_highs p); path = [] }
+    record {
+      parent = None;
+      ancestors = [];
+      depth = 0;
+      low = trivial_bound_of p (own_lows p) (own_highs p);
+      path = [];
+    }
 
 abbrev pub node_in : Program → List Node → ℕ → Node
 node_in p nodes id = slice_index_or nodes id (root_node p)
@@ -48,13 +56,18 @@ left_branch common column at =
 
 abbrev pub right_branch : Change Cut → ℕ → ℤ → Branch
 right_branch common column at =
-    record { common = common; decision = record { column = column; side = AtLeast; value = at +ℤ pos 1 } }
+    record {
+      common = common;
+      decision = record { column = column; side = AtLeast; value = at +ℤ pos 1 };
+    }
 
 -- the nodes after a put on the node `id`, the left child first
 abbrev pub with_children : List Node → Node → ℕ → ℤ → Step → List Node
 with_children nodes node id low Shut = nodes
 with_children nodes node id low (Split common column at) =
-    nodes ++ child node id low (left_branch common column at) ∷ child node id low (right_branch common column at) ∷ []
+    nodes
+    ++ child node id low (left_branch common column at)
+    ∷ child node id low (right_branch common column at) ∷ []
 
 abbrev pub grown : Program → List Node → Entry → List Node
 grown p nodes (Put seat id found low next) = with_children nodes (node_in p nodes id) id low next
@@ -70,3 +83,7 @@ nodes_of p (e ∷ past) = grown p (nodes_of p past) e
 
 abbrev pub node_at : Program → List Entry → ℕ → Node
 node_at p past id = node_in p (nodes_of p past) id
+
+-- the history has made the node
+abbrev pub IsBorn : Program → List Entry → ℕ → Type 0
+IsBorn p past id = id < length (nodes_of p past)

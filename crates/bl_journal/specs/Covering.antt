@@ -21,14 +21,24 @@ abbrev pub row : Row
 row =
     record {
       name = 82 ∷ [];
-      terms = record { column = 0; coefficient = pos 2 } ∷ record { column = 1; coefficient = pos 3 } ∷ [];
+      terms =
+          record { column = 0; coefficient = pos 2 }
+          ∷ record { column = 1; coefficient = pos 3 } ∷ [];
       low = Some (pos 7);
       high = None;
     }
 
 -- 2X + 3Y at least 7, at the cost 2X + 3Y
 abbrev pub covering : Program
-covering = record { columns = column 88 2 ∷ column 89 3 ∷ []; rows = row ∷ []; objective = 67 ∷ []; scale = 0; offset = pos 0; sense = Min }
+covering =
+    record {
+      columns = column 88 2 ∷ column 89 3 ∷ [];
+      rows = row ∷ [];
+      objective = 67 ∷ [];
+      scale = 0;
+      offset = pos 0;
+      sense = Min;
+    }
 
 -- at most 100 nodes, best first, with no gap
 abbrev pub with_span : ℕ → Settings
@@ -60,4 +70,9 @@ low_if None = pos 0
 
 -- X is at most 4 or at least 5; and a point is found, or none
 abbrev pub split_root : Option ℤ → Outcome
-split_root found = record { found = point_if found; low = low_if found; next = Split nothing 0 (pos 4) (Relative high_four) (Relative low_five) }
+split_root found =
+    record {
+      found = point_if found;
+      low = low_if found;
+      next = Split nothing 0 (pos 4) (Relative high_four) (Relative low_five);
+    }

@@ -26,11 +26,13 @@ root_desc p =
 -- the bound decisions on the way, each common change before its split
 abbrev pub decisions_along : List Branch → List Decision
 decisions_along [] = []
-decisions_along (branch ∷ branches) = (decisions_of branch.common ++ branch.decision ∷ []) ++ decisions_along branches
+decisions_along (branch ∷ branches) =
+    (decisions_of branch.common ++ branch.decision ∷ []) ++ decisions_along branches
 
 -- each low is the greatest of its own low and the AtLeast numbers on the way, each high the least
 abbrev pub box_along : Program → List Branch → Box
-box_along p branches = narrowed_all (record { lows = own_lows p; highs = own_highs p }) (decisions_along branches)
+box_along p branches =
+    narrowed_all (record { lows = own_lows p; highs = own_highs p }) (decisions_along branches)
 
 -- the changes on the way, one after another
 abbrev pub changed_along : Desc Cut → List Branch → Desc Cut
@@ -50,7 +52,8 @@ full_of p past id = full_along p (node_at p past id).path
 
 -- the point lies within the problem's bounds and meets each decision on the way
 abbrev pub IsInNode : Program → List Entry → ℕ → List ℤ → Type 0
-IsInNode p past id x = InBox (own_lows p) (own_highs p) x × MeetsAll x (decisions_along (node_at p past id).path)
+IsInNode p past id x =
+    InBox (own_lows p) (own_highs p) x × MeetsAll x (decisions_along (node_at p past id).path)
 
 -- the children of a split, from the description after the common change
 abbrev pub left_child : Desc Cut → ℕ → ℤ → Desc Cut

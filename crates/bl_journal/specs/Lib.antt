@@ -11,3 +11,4 @@ pub mod Results
 pub mod Laws
 pub mod Tidying
 pub mod Covering
+pub mod Seats

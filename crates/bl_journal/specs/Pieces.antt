@@ -1,10 +1,12 @@
 -- How nodes are stored_of.
-use Rattle.std.specs.Prelude.{ℕ, ◌%◌, Bool, true, false, List, [], ◌∷◌, ◌++◌, sum_by, filter, not, Option, Some, None, if◌then◌else◌, ◌==◌}
+use Rattle.std.specs.Prelude.{ℕ, ◌%◌, Bool, true, false, List, [], ◌∷◌, ◌++◌, sum_by, filter, not}
+use Rattle.std.specs.Prelude.{Option, Some, None, if◌then◌else◌, ◌==◌}
 use Rattle.bl_problem.specs.Program.{Program}
 use Rattle.bl_problem.specs.declared.cut.Cut.{Cut}
 use Rattle.bl_desc.specs.declared.desc.Desc.{Desc}
 use Rattle.bl_desc.specs.declared.desc.Form.{Form}
-use Rattle.bl_desc.specs.declared.desc.Form.TheVariants.{Explicit as ExplicitForm, Relative as RelativeForm}
+use Rattle.bl_desc.specs.declared.desc.Form.TheVariants.{Explicit as ExplicitForm}
+use Rattle.bl_desc.specs.declared.desc.Form.TheVariants.{Relative as RelativeForm}
 use Rattle.bl_desc.specs.declared.desc.Piece.{Piece}
 use Rattle.bl_desc.specs.declared.desc.Piece.TheVariants.{Explicit, Relative}
 use Rattle.bl_desc.specs.Changes.{changed, difference}
@@ -13,7 +15,11 @@ use Rattle.bl_journal.specs.declared.entry.Entry.{Entry}
 use Rattle.bl_journal.specs.declared.settings.Settings.{Settings}
 use Rattle.bl_journal.specs.Births.{node_at}
 use Rattle.bl_journal.specs.Descriptions.{full_of}
-use Rattle.bl_journal.specs.States.{State, waiting, out, split, shut, freed, state_of, form_of}
+use Rattle.bl_journal.specs.States.{state_of, form_of}
+use Rattle.bl_journal.specs.declared.state.State.{State}
+use Rattle.bl_journal.specs.declared.state.State.TheVariants.{Waiting as waiting, Out as out}
+use Rattle.bl_journal.specs.declared.state.State.TheVariants.{Split as split, Shut as shut}
+use Rattle.bl_journal.specs.declared.state.State.TheVariants.{Freed as freed}
 use Rattle.bl_journal.specs.Replies.{ids_of}
 
 -- the canonical difference from the parent's description; the root has none
@@ -23,7 +29,8 @@ difference_from p past (Some parent) d = Relative (difference (λ c. c.id) (full
 
 abbrev pub piece_in : Program → List Entry → ℕ → Form → Piece Cut
 piece_in p past id ExplicitForm = Explicit (full_of p past id)
-piece_in p past id RelativeForm = difference_from p past (node_at p past id).parent (full_of p past id)
+piece_in p past id RelativeForm =
+    difference_from p past (node_at p past id).parent (full_of p past id)
 
 abbrev pub stored_of : Program → Settings → List Entry → ℕ → Piece Cut
 stored_of p s past id = piece_in p past id (form_of p s past id)
@@ -41,9 +48,11 @@ abbrev pub chained : List (Piece Cut) → Piece Cut → List (Piece Cut)
 chained chain (Explicit d) = Explicit d ∷ []
 chained chain (Relative c) = chain ++ Relative c ∷ []
 
-abbrev pub chain_along : Program → Settings → List Entry → List (Piece Cut) → List ℕ → List (Piece Cut)
+abbrev pub chain_along :
+    Program → Settings → List Entry → List (Piece Cut) → List ℕ → List (Piece Cut)
 chain_along p s past chain [] = chain
-chain_along p s past chain (id ∷ ids) = chain_along p s past (chained chain (stored_of p s past id)) ids
+chain_along p s past chain (id ∷ ids) =
+    chain_along p s past (chained chain (stored_of p s past id)) ids
 
 -- the pieces from the nearest explicit one down to the node
 abbrev pub chain_of : Program → Settings → List Entry → ℕ → List (Piece Cut)
@@ -57,7 +66,9 @@ is_freed split = false
 is_freed shut = false
 
 unfoldable pub held_of : Program → Settings → List Entry → ℕ
-held_of p s past = sum_by (λ id. weight_of (stored_of p s past id)) (filter (λ id. not (is_freed (state_of past id))) (ids_of p past))
+held_of p s past =
+    sum_by (λ id. weight_of (stored_of p s past id))
+    (filter (λ id. not (is_freed (state_of past id))) (ids_of p past))
 
 -- the description that a chain stands for, if it begins with an explicit piece
 abbrev pub rebuilt_onto : Desc Cut → List (Piece Cut) → Desc Cut

@@ -1,12 +1,17 @@
 -- Which node a take gives.
-use Rattle.std.specs.Prelude.{ℕ, suc, zero, Bool, true, false, ◌&&◌, ◌||◌, nat_lt, List, [], ◌∷◌, ◌++◌, length, Option, Some, None, if◌then◌else◌}
+use Rattle.std.specs.Prelude.{ℕ, suc, zero, Bool, true, false, ◌&&◌, ◌||◌, nat_lt, List, [], ◌∷◌}
+use Rattle.std.specs.Prelude.{◌++◌, length, Option, Some, None, if◌then◌else◌}
 use Rattle.bl_problem.specs.Program.{Program}
 use Rattle.bl_journal.specs.declared.entry.Entry.{Entry}
 use Rattle.bl_journal.specs.declared.settings.Settings.{Settings}
 use Rattle.bl_pool.specs.declared.key.Key.{Key}
 use Rattle.bl_pool.specs.Orders.{before}
 use Rattle.bl_journal.specs.Births.{nodes_of, node_at}
-use Rattle.bl_journal.specs.States.{State, waiting, out, split, shut, freed, state_of, is_open, used_of}
+use Rattle.bl_journal.specs.States.{state_of, is_open, used_of}
+use Rattle.bl_journal.specs.declared.state.State.{State}
+use Rattle.bl_journal.specs.declared.state.State.TheVariants.{Waiting as waiting, Out as out}
+use Rattle.bl_journal.specs.declared.state.State.TheVariants.{Split as split, Shut as shut}
+use Rattle.bl_journal.specs.declared.state.State.TheVariants.{Freed as freed}
 
 -- 0, 1, .. below n
 abbrev pub ids_below : ℕ → List ℕ
@@ -33,7 +38,8 @@ is_out freed = false
 
 -- what the order sees of a node
 abbrev pub key_of : Program → List Entry → ℕ → Key
-key_of p past id = record { id = id; low = (node_at p past id).low; depth = (node_at p past id).depth }
+key_of p past id =
+    record { id = id; low = (node_at p past id).low; depth = (node_at p past id).depth }
 
 abbrev pub preferred : (ℕ → ℕ → Bool) → Option ℕ → ℕ → Option ℕ
 preferred comes None n = Some n
@@ -51,7 +57,8 @@ waits_live p s past id = is_waiting (state_of past id) && is_open p s past id
 -- the first live waiting node in the order
 abbrev pub next_of : Program → Settings → List Entry → Option ℕ
 next_of p s past =
-    first_below (λ i j. before s.order (key_of p past i) (key_of p past j)) (waits_live p s past) (length (nodes_of p past))
+    first_below (λ i j. before s.order (key_of p past i) (key_of p past j)) (waits_live p s past)
+    (length (nodes_of p past))
 
 -- whether a number below n passes
 abbrev pub any_below : (ℕ → Bool) → ℕ → Bool

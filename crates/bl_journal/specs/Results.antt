@@ -1,13 +1,20 @@
 -- What a history says of the problem, and the budget.
-use Rattle.std.specs.Prelude.{◌≡◌, ℕ, ◌-◌, ◌*◌, ◌<◌, length, ℤ, pos, ◌-ℤ◌, ◌≤ℤ◌, int_lt, Bool, true, false, List, [], ◌∷◌, map, filter, fold, sum_by, Option, Some, None, if◌then◌else◌}
+use Rattle.std.specs.Prelude.{◌≡◌, ℕ, ◌-◌, ◌*◌, ◌<◌, length, ℤ, pos, ◌-ℤ◌, ◌≤ℤ◌, int_lt, Bool, true}
+use Rattle.std.specs.Prelude.{false, List, [], ◌∷◌, map, filter, fold, sum_by, Option, Some, None}
+use Rattle.std.specs.Prelude.{if◌then◌else◌}
 use Rattle.std.specs.Int.{int_min}
 use Rattle.bl_problem.specs.Program.{Program}
 use Rattle.bl_problem.specs.Points.{points_in, IsFeasible, value_of}
 use Rattle.bl_journal.specs.declared.entry.Entry.{Entry}
 use Rattle.bl_journal.specs.declared.settings.Settings.{Settings}
-use Rattle.bl_journal.specs.Births.{nodes_of, node_at}
+use Rattle.bl_journal.specs.Births.{nodes_of, node_at, IsBorn}
 use Rattle.bl_journal.specs.Descriptions.{full_of, IsInNode}
-use Rattle.bl_journal.specs.States.{State, waiting, out, split, shut, freed, state_of, is_open, is_live, best_of, Found, value_less, cutoff_for, is_below, used_of}
+use Rattle.bl_journal.specs.States.{state_of, is_open, is_live, best_of, Found, value_less}
+use Rattle.bl_journal.specs.States.{cutoff_for, is_below, used_of}
+use Rattle.bl_journal.specs.declared.state.State.{State}
+use Rattle.bl_journal.specs.declared.state.State.TheVariants.{Waiting as waiting, Out as out}
+use Rattle.bl_journal.specs.declared.state.State.TheVariants.{Split as split, Shut as shut}
+use Rattle.bl_journal.specs.declared.state.State.TheVariants.{Freed as freed}
 use Rattle.bl_journal.specs.Replies.{ids_of, waits_live}
 
 pub data Verdict : Type 0 where
@@ -34,9 +41,11 @@ lesser_of low (Some c) = int_min c low
 
 abbrev pub answer_for : ℤ → Option Found → List ℤ → Verdict
 answer_for gap best [] = final gap best
-answer_for gap best (low ∷ lows) = bounded (lesser_of (fold int_min low lows) (value_less gap best)) best
+answer_for gap best (low ∷ lows) =
+    bounded (lesser_of (fold int_min low lows) (value_less gap best)) best
 
--- with no live node the best point is optimal, or within the gap; else the bound is the least of the best value less the gap and the live nodes' lows
+-- with no live node the best point is optimal, or within the gap; else the bound is the least of
+-- the best value less the gap and the live nodes' lows
 unfoldable pub answer_of : Program → Settings → List Entry → Verdict
 answer_of p s past = answer_for s.gap (best_of p past) (lows_of p past (live_ids p s past))
 
@@ -53,7 +62,9 @@ share_in freed b n = 0
 
 -- the takes that may still come
 abbrev pub room_of : Program → Settings → List Entry → ℕ
-room_of p s past = sum_by (λ id. share_in (state_of past id) (is_open p s past id) (node_points p past id)) (ids_of p past)
+room_of p s past =
+    sum_by (λ id. share_in (state_of past id) (is_open p s past id) (node_points p past id))
+    (ids_of p past)
 
 -- the point is feasible and has the value
 pub record IsGood (p : Program) (f : Found) : Type 0 where
@@ -67,16 +78,29 @@ BestGood p (Some f) = IsGood p f
 
 -- what the answer says of the feasible points
 abbrev pub IsTrueFor : Program → Verdict → Type 0
-IsTrueFor p (optimal best) = IsFeasible p best.point × (best.value ≡ value_of p best.point) × ((x : List ℤ) → IsFeasible p x → best.value ≤ℤ value_of p x)
-IsTrueFor p (within best bound) = IsFeasible p best.point × (best.value ≡ value_of p best.point) × ((x : List ℤ) → IsFeasible p x → bound ≤ℤ value_of p x)
+IsTrueFor p (optimal best) =
+    IsFeasible p best.point
+    × (best.value ≡ value_of p best.point)
+    × ((x : List ℤ) → IsFeasible p x → best.value ≤ℤ value_of p x)
+IsTrueFor p (within best bound) =
+    IsFeasible p best.point
+    × (best.value ≡ value_of p best.point)
+    × ((x : List ℤ) → IsFeasible p x → bound ≤ℤ value_of p x)
 IsTrueFor p infeasible = (x : List ℤ) → IsFeasible p x → ⊥
-IsTrueFor p (bounded bound best) = BestGood p best × ((x : List ℤ) → IsFeasible p x → bound ≤ℤ value_of p x)
+IsTrueFor p (bounded bound best) =
+    BestGood p best × ((x : List ℤ) → IsFeasible p x → bound ≤ℤ value_of p x)
 
--- a live node that holds the point, whose low number is at most its value
-pub record LiesIn (p : Program) (s : Settings) (past : List Entry) (x : List ℤ) (id : ℕ) : Type 0 where
-  pub born : id < length (nodes_of p past)
+-- a live node whose box has the point
+pub record IsHeldBy (p : Program) (s : Settings) (past : List Entry) (x : List ℤ) (id : ℕ)
+    : Type 0 where
+  pub born : IsBorn p past id
   pub live : is_live p s past id ≡ true
   pub inside : IsInNode p past id x
+
+-- a live node that holds the point, whose low number is at most its value
+pub record LiesIn (p : Program) (s : Settings) (past : List Entry) (x : List ℤ) (id : ℕ)
+    : Type 0 where
+  pub held : IsHeldBy p s past x id
   pub low : (node_at p past id).low ≤ℤ value_of p x
 
 -- the point is feasible, and its value is below the best one less the gap

@@ -1,5 +1,7 @@
 -- What the outcome of work on a node must keep.
-use Rattle.std.specs.Prelude.{◌≢◌, ℕ, ◌+◌, ◌≤◌, ◌<◌, ℤ, pos, ◌≤ℤ◌, ◌<ℤ◌, List, [], ◌∷◌, ◌++◌, length, map, All, AllPairs, Option, Some, None, IfSome, slice_index_or}
+use Rattle.std.specs.Prelude.{◌≢◌, ℕ, ◌+◌, ◌≤◌, ◌<◌, ℤ, pos, ◌≤ℤ◌, ◌<ℤ◌, List, [], ◌∷◌, ◌++◌}
+use Rattle.std.specs.Prelude.{length, map, All, AllPairs, Option, Some, None, IfSome}
+use Rattle.std.specs.Prelude.{slice_index_or}
 use Rattle.std.specs.Int.{int_min}
 use Rattle.bl_mods.specs.declared.mods.Mod.{Mod}
 use Rattle.bl_problem.specs.Program.{Program}
@@ -14,6 +16,7 @@ use Rattle.bl_problem.specs.Decisions.{MeetsAll}
 use Rattle.bl_problem.specs.declared.decision.Decision.{Decision}
 use Rattle.bl_problem.specs.declared.decision.Side.{Side}
 use Rattle.bl_problem.specs.declared.decision.Side.TheVariants.{AtLeast, AtMost}
+use Rattle.bl_journal.specs.declared.limits.TheConstants.{MOST_BOUNDS, MOST_CUTS, MOST_STATUSES}
 use Rattle.bl_journal.specs.declared.entry.Step.{Step}
 use Rattle.bl_journal.specs.declared.entry.Step.TheVariants.{Shut, Split}
 
@@ -49,11 +52,14 @@ pub record IsCommonFor (d : Desc Cut) (common : Change Cut) : Type 0 where
   pub lows_rise : Tightens (λ old new. old <ℤ new) common.lows d.lows
   pub highs_fall : Tightens (λ old new. new <ℤ old) common.highs d.highs
   pub ids_differ : AllPairs (λ a b. a.id ≢ b.id) (d.cuts ++ common.cuts.added)
-  pub few_bounds : length common.lows + length common.highs ≤ 256
-  pub few_statuses : length common.columns + length common.rows + length common.fresh ≤ 512
-  pub few_cuts : length (changed common d).cuts ≤ 200
+  pub few_bounds : length common.lows + length common.highs ≤ MOST_BOUNDS
+  pub few_statuses : length common.columns + length common.rows + length common.fresh
+      ≤ MOST_STATUSES
+  pub few_cuts : length (changed common d).cuts ≤ MOST_CUTS
 
-pub record SplitsWell (p : Program) (d : Desc Cut) (cutoff : Option ℤ) (common : Change Cut) (column : ℕ) (at : ℤ) : Type 0 where
+pub record SplitsWell
+    (p : Program) (d : Desc Cut) (cutoff : Option ℤ) (common : Change Cut) (column : ℕ) (at : ℤ)
+    : Type 0 where
   pub common_fits : IsCommonFor d common
   pub meets : (x : List ℤ) → IsInQuestion p d cutoff x → MeetsAll x (decisions_of common)
   pub cuts_suit : All (SuitsProblem p) common.cuts.added
@@ -66,7 +72,9 @@ abbrev pub IsSoundStep : Program → Desc Cut → Option ℤ → Step → Type 0
 IsSoundStep p d cutoff Shut = (x : List ℤ) → IsInQuestion p d cutoff x → ⊥
 IsSoundStep p d cutoff (Split common column at) = SplitsWell p d cutoff common column at
 
-pub record IsSound (p : Program) (d : Desc Cut) (cutoff : Option ℤ) (found : Option (List ℤ)) (low : ℤ) (next : Step) : Type 0 where
+pub record IsSound
+    (p : Program) (d : Desc Cut) (cutoff : Option ℤ) (found : Option (List ℤ)) (low : ℤ)
+    (next : Step) : Type 0 where
   pub found_ok : IfSome found (λ x. IsFeasible p x × InBox d.lows d.highs x)
   pub low_ok : (x : List ℤ) → IsInQuestion p d (cutoff_with p cutoff found) x → low ≤ℤ value_of p x
   pub next_ok : IsSoundStep p d (cutoff_with p cutoff found) next

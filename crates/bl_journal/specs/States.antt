@@ -1,5 +1,6 @@
 -- What a history says of a node, of the best point and of the budget. The last entry comes first.
-use Rattle.std.specs.Prelude.{ℕ, ◌+◌, ◌-◌, ◌%◌, ℤ, ◌-ℤ◌, int_lt, int_le, Bool, true, false, ◌&&◌, List, [], ◌∷◌, Option, Some, None, if◌then◌else◌, ◌==◌}
+use Rattle.std.specs.Prelude.{ℕ, ◌+◌, ◌-◌, ◌%◌, ℤ, ◌-ℤ◌, int_lt, int_le, Bool, true, false, ◌&&◌}
+use Rattle.std.specs.Prelude.{List, [], ◌∷◌, Option, Some, None, if◌then◌else◌, ◌==◌}
 use Rattle.bl_mods.specs.Mods.{is_among}
 use Rattle.bl_problem.specs.Program.{Program}
 use Rattle.bl_problem.specs.Points.{value_of}
@@ -10,15 +11,12 @@ use Rattle.bl_journal.specs.declared.entry.Entry.TheVariants.{Take, Put, Back, E
 use Rattle.bl_journal.specs.declared.entry.Step.{Step}
 use Rattle.bl_journal.specs.declared.entry.Step.TheVariants.{Shut, Split}
 use Rattle.bl_journal.specs.declared.settings.Settings.{Settings}
+use Rattle.bl_journal.specs.declared.state.State.{State}
+use Rattle.bl_journal.specs.declared.state.State.TheVariants.{Waiting as waiting, Out as out}
+use Rattle.bl_journal.specs.declared.state.State.TheVariants.{Split as split, Shut as shut}
+use Rattle.bl_journal.specs.declared.state.State.TheVariants.{Freed as freed}
 use Rattle.bl_journal.specs.Births.{node_at}
 use Rattle.bl_journal.specs.Descriptions.{full_of}
-
-pub data State : Type 0 where
-  waiting : State
-  out : (seat : ℕ) → State
-  split : State
-  shut : State
-  freed : State
 
 abbrev pub put_state : Step → State
 put_state Shut = shut
@@ -137,7 +135,8 @@ is_live_in freed open_node = false
 -- the box has a point and the low number is below the best value less the gap
 abbrev pub is_open : Program → Settings → List Entry → ℕ → Bool
 is_open p s past id =
-    has_point (full_of p past id).lows (full_of p past id).highs && is_below (node_at p past id).low (cutoff_for p s past)
+    has_point (full_of p past id).lows (full_of p past id).highs
+    && is_below (node_at p past id).low (cutoff_for p s past)
 
 abbrev pub is_live : Program → Settings → List Entry → ℕ → Bool
 is_live p s past id = is_live_in (state_of past id) (is_open p s past id)

@@ -1,5 +1,6 @@
 -- When a seat has stored its nodes anew in time.
-use Rattle.std.specs.Prelude.{◌≡◌, ◌⊎◌, ℕ, ◌+◌, ◌%◌, Bool, true, false, List, [], ◌∷◌, ◌++◌, length, All, if◌then◌else◌, ◌==◌}
+use Rattle.std.specs.Prelude.{◌≡◌, ◌⊎◌, ℕ, ◌+◌, ◌%◌, Bool, true, false, List, [], ◌∷◌, ◌++◌, length}
+use Rattle.std.specs.Prelude.{All, if◌then◌else◌, ◌==◌}
 use Rattle.bl_problem.specs.Program.{Program}
 use Rattle.bl_desc.specs.declared.desc.Form.TheVariants.{Explicit}
 use Rattle.bl_journal.specs.declared.entry.Entry.{Entry}
@@ -8,7 +9,8 @@ use Rattle.bl_journal.specs.declared.entry.Step.{Step}
 use Rattle.bl_journal.specs.declared.entry.Step.TheVariants.{Shut, Split}
 use Rattle.bl_journal.specs.declared.settings.Settings.{Settings}
 use Rattle.bl_journal.specs.Births.{nodes_of}
-use Rattle.bl_journal.specs.States.{freed, state_of, form_of}
+use Rattle.bl_journal.specs.States.{state_of, form_of}
+use Rattle.bl_journal.specs.declared.state.State.TheVariants.{Freed as freed}
 
 abbrev pub is_split : Step → Bool
 is_split Shut = false
@@ -43,19 +45,23 @@ pub record IsDue (seat : ℕ) (e : Entry) (past : List Entry) : Type 0 where
 abbrev pub IsSettled : Program → Settings → List Entry → ℕ → Type 0
 IsSettled p s past id = (form_of p s past id ≡ Explicit) ⊎ (state_of past id ≡ freed)
 
--- at some time after the entries `past`, and before the seat's next take in the entries `later`, the node was explicit or freed
-pub record WasSettled (p : Program) (s : Settings) (seat : ℕ) (later past : List Entry) (id : ℕ) : Type 0 where
+-- at some time after the entries `past`, and before the seat's next take in the entries `later`,
+-- the node was explicit or freed
+pub record WasSettled
+    (p : Program) (s : Settings) (seat : ℕ) (later past : List Entry) (id : ℕ) : Type 0 where
   pub rest : List Entry
   pub soon : List Entry
   pub parts : later ≡ rest ++ soon
   pub no_take : All (λ e. takes seat e ≡ false) soon
   pub settled : IsSettled p s (soon ++ past) id
 
--- after each fourth of its splits the seat saw to it that both children are explicit or freed, before it took again
+-- after each fourth of its splits the seat saw to it that both children are explicit or freed,
+-- before it took again
 abbrev pub IsTidied : Program → Settings → ℕ → List Entry → Type 0
 IsTidied p s seat past =
     (later earlier : List Entry) (e : Entry) → past ≡ later ++ e ∷ earlier → IsDue seat e earlier
-    → WasSettled p s seat later (e ∷ earlier) (length (nodes_of p earlier)) × WasSettled p s seat later (e ∷ earlier) (length (nodes_of p earlier) + 1)
+    → WasSettled p s seat later (e ∷ earlier) (length (nodes_of p earlier))
+    × WasSettled p s seat later (e ∷ earlier) (length (nodes_of p earlier) + 1)
 
 -- the seat stores a node in another form, or frees nodes
 abbrev pub IsUpkeepBy : ℕ → Entry → Type 0

@@ -8,7 +8,8 @@ use bl_problem::Cut;
 pub enum Step {
     /// It has no better point.
     Shut,
-    /// Its box is split after a change that both children share: `column` is at most `at` in the left child, and at least `at` + 1 in the right one.
+    /// Its box is split after a change that both children share: `column` is at most `at` in the
+    /// left child, and at least `at` + 1 in the right one.
     Split {
         common: Shared<Change<Cut>>,
         column: u32,
@@ -24,7 +25,8 @@ pub enum Entry {
         seat: u32,
         id: u32,
     },
-    /// The outcome of the work on a node is handed in: a feasible point, if one was found; a number that no better point of the node is below; and what becomes of the node.
+    /// The outcome of the work on a node is handed in: a feasible point, if one was found; a number
+    /// that no better point of the node is below; and what becomes of the node.
     Put {
         seat: u32,
         id: u32,

@@ -1,5 +1,6 @@
 //! The journal: a list of entries, with spare room.
-ghost use Rattle.std.specs.Prelude.{◌≡◌, ◌<◌, ◌≤◌, ◌+◌, [], ◌∷◌, ◌++◌, length, slice_get, option_copied, OnOk, IsTrue, ◌↔◌};
+ghost use Rattle.std.specs.Prelude.{◌≡◌, ◌<◌, ◌≤◌, ◌+◌, [], ◌∷◌, ◌++◌, length, slice_get};
+ghost use Rattle.std.specs.Prelude.{option_copied, OnOk, IsTrue, ◌↔◌};
 
 use crate::entry::Entry;
 use std::alloc::{AllocError, Global};
@@ -17,7 +18,10 @@ impl Model for Journal {
 
     ghost Value = { Kept };
 
-    ghost view = { λ j. record { entries = j.entries.items; room = vec_capacity j.entries - length j.entries.items } };
+    ghost view = { λ j. record {
+      entries = j.entries.items;
+      room = vec_capacity j.entries - length j.entries.items;
+    } };
 }
 
 impl Journal {
@@ -58,7 +62,8 @@ impl Journal {
         self.entries.as_slice()
     }
 
-    /// Makes the spare room at least `more`. `AllocError` where there is no memory. The entries stay, and no room is lost.
+    /// Makes the spare room at least `more`. `AllocError` where there is no memory. The entries
+    /// stay, and no room is lost.
     pub fn reserve(&mut self, more: usize) -> Result<(), AllocError>
         ensures entries { self.new.entries ≡ self.old.entries }
         ensures room { OnOk result (more ≤ self.new.room) }

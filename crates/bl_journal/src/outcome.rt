@@ -8,7 +8,8 @@ use bl_problem::Cut;
 pub enum Next {
     /// It has no better point.
     Shut,
-    /// Its box is split after a change that both children share: `column` is at most `at` in the left child, and at least `at` + 1 in the right one.
+    /// Its box is split after a change that both children share: `column` is at most `at` in the
+    /// left child, and at least `at` + 1 in the right one.
     Split {
         common: Shared<Change<Cut>>,
         column: u32,

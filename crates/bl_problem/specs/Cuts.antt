@@ -6,7 +6,8 @@ use Rattle.bl_problem.specs.Program.{Program}
 use Rattle.bl_problem.specs.Points.{IsFeasible}
 use Rattle.bl_problem.specs.declared.cut.Cut.{Cut}
 
--- the cut's terms are on the problem's columns, in rising order and never zero, and it keeps the limits
+-- the cut's terms are on the problem's columns, in rising order and never zero, and it keeps the
+-- limits
 pub record SuitsProblem (p : Program) (cut : Cut) : Type 0 where
   pub terms : AreTerms (length p.columns) cut.terms
   pub right : IsWithin (10 ^ 30) cut.right

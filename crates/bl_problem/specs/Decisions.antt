@@ -1,5 +1,6 @@
 -- Bound decisions, and the box that they leave.
-use Rattle.std.specs.Prelude.{ℕ, ℤ, pos, ◌≤ℤ◌, List, [], ◌∷◌, slice_set, slice_index_or, slice_get, IfSome}
+use Rattle.std.specs.Prelude.{ℕ, ℤ, pos, ◌≤ℤ◌, List, [], ◌∷◌, slice_set, slice_index_or}
+use Rattle.std.specs.Prelude.{slice_get, IfSome}
 use Rattle.std.specs.Int.{int_max, int_min}
 use Rattle.bl_problem.specs.declared.decision.Decision.{Decision}
 use Rattle.bl_problem.specs.declared.decision.Side.{Side}
@@ -14,7 +15,8 @@ abbrev pub MeetsSide : Side → ℤ → ℤ → Type 0
 MeetsSide AtLeast v entry = v ≤ℤ entry
 MeetsSide AtMost v entry = entry ≤ℤ v
 
--- the point's entry is at least, or at most, the decision's value. A column that the point lacks decides nothing
+-- the point's entry is at least, or at most, the decision's value. A column that the point lacks
+-- decides nothing
 abbrev pub Meets : List ℤ → Decision → Type 0
 Meets x d = IfSome (slice_get x d.column) (MeetsSide d.side d.value)
 

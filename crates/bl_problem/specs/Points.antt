@@ -1,5 +1,6 @@
 -- The points of an integer program: which are feasible, and their values.
-use Rattle.std.specs.Prelude.{ℕ, suc, ◌*◌, List, [], ◌∷◌, length, ℤ, ◌+ℤ◌, ◌-ℤ◌, ◌*ℤ◌, ◌≤ℤ◌, neg_ℤ, All, map, int_lt, unsigned_abs, if◌then◌else◌}
+use Rattle.std.specs.Prelude.{ℕ, suc, ◌*◌, List, [], ◌∷◌, length, ℤ, ◌+ℤ◌, ◌-ℤ◌, ◌*ℤ◌, ◌≤ℤ◌}
+use Rattle.std.specs.Prelude.{neg_ℤ, All, map, int_lt, unsigned_abs, if◌then◌else◌}
 use Rattle.std.specs.Int.{int_min}
 use Rattle.bl_num.specs.Exact.{at, sum_below}
 use Rattle.bl_problem.specs.Program.{Program}
@@ -51,10 +52,13 @@ own_lows p = lows_of p.columns
 abbrev pub own_highs : Program → List ℤ
 own_highs p = highs_of p.columns
 
--- the bound that a box alone gives: the offset, and for each column the lesser of cost times low and cost times high
+-- the bound that a box alone gives: the offset, and for each column the lesser of cost times low
+-- and cost times high
 abbrev pub trivial_bound_of : Program → List ℤ → List ℤ → ℤ
 trivial_bound_of p lows highs =
-    p.offset +ℤ sum_below (length p.columns) (λ j. int_min (at (costs_of p.columns) j *ℤ at lows j) (at (costs_of p.columns) j *ℤ at highs j))
+    p.offset +ℤ sum_below (length p.columns)
+    (λ j. int_min (at (costs_of p.columns) j *ℤ at lows j)
+    (at (costs_of p.columns) j *ℤ at highs j))
 
 -- how many whole numbers are from low to high
 abbrev pub width_of : ℤ → ℤ → ℕ

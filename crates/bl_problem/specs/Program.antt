@@ -1,12 +1,14 @@
 -- An integer program with bounded whole-number columns, as contracts see a problem.
-use Rattle.std.specs.Prelude.{ℕ, List, [], length, ◌≤◌, ◌≢◌, ◌≡◌, ◌^◌, ℤ, pos, ◌*ℤ◌, All, AllPairs, codes}
+use Rattle.std.specs.Prelude.{ℕ, List, [], length, ◌≤◌, ◌≢◌, ◌≡◌, ◌^◌, ℤ, pos, ◌*ℤ◌, All}
+use Rattle.std.specs.Prelude.{AllPairs, codes}
 use Rattle.bl_problem.specs.Sums.{IsWithin}
 use Rattle.bl_problem.specs.Rows.{AreTerms, AreEnds}
 use Rattle.bl_problem.specs.declared.problem.Column.{Column}
 use Rattle.bl_problem.specs.declared.problem.Row.{Row}
 use Rattle.bl_problem.specs.declared.problem.Sense.{Sense}
 
--- the value is to be minimised; costs and offset are in units of 10 to the power `-scale`. Where the file asks for the greatest value, they are the negatives of the file's
+-- the value is to be minimised; costs and offset are in units of 10 to the power `-scale`. Where
+-- the file asks for the greatest value, they are the negatives of the file's
 pub record Program : Type 0 where
   pub columns : List Column
   pub rows : List Row

@@ -1,5 +1,6 @@
 -- The terms and the ends of a row.
-use Rattle.std.specs.Prelude.{ℕ, List, [], ◌∷◌, ◌==◌, if◌then◌else◌, ◌<◌, ◌≢◌, ◌^◌, ℤ, pos, ◌≤ℤ◌, Option, Some, None, All, AllPairs}
+use Rattle.std.specs.Prelude.{ℕ, List, [], ◌∷◌, ◌==◌, if◌then◌else◌, ◌<◌, ◌≢◌, ◌^◌, ℤ, pos, ◌≤ℤ◌}
+use Rattle.std.specs.Prelude.{Option, Some, None, All, AllPairs}
 use Rattle.bl_problem.specs.Sums.{IsWithin, sum_of_terms}
 use Rattle.bl_problem.specs.declared.problem.Row.{Row}
 use Rattle.bl_problem.specs.declared.problem.Term.{Term}

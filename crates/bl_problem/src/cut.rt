@@ -2,7 +2,8 @@
 use crate::problem::Term;
 use bl_mods::{Item, ItemId, Items};
 
-/// A cut: the sum of its terms is at most `right`. It is named by the seat that made it and its number there.
+/// A cut: the sum of its terms is at most `right`. It is named by the seat that made it and its
+/// number there.
 #[derive(Drop)]
 pub struct Cut {
     pub id: ItemId,

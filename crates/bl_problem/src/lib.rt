@@ -1,4 +1,4 @@
-//! Integer programs: columns, rows and cuts; points and their values; bound decisions.
+//! Model: integer programs: columns, rows and cuts; points and their values; bound decisions.
 #![tactic(auto)]
 
 mod cut;

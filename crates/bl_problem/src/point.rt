@@ -31,7 +31,8 @@ pub fn value_sum(columns: &[Column], offset: i128, point: &[i64]) -> i128
     requires columns { All IsColumn columns.now }
     requires offset { IsWithin (10 ^ 24) offset }
     requires near { All (IsWithin (10 ^ 9)) point.now }
-    ensures { result ≡ offset +ℤ sum_below (length columns.now) (λ j. at (costs_of columns.now) j *ℤ at point.now j) }
+    ensures { result ≡ offset +ℤ sum_below (length columns.now)
+        (λ j. at (costs_of columns.now) j *ℤ at point.now j) }
 {
     let mut sum = offset;
     for j in 0..columns.len() {
@@ -49,7 +50,9 @@ pub fn least_sum(columns: &[Column], offset: i128, lows: &[i64], highs: &[i64]) 
     requires offset { IsWithin (10 ^ 24) offset }
     requires low_near { All (IsWithin (10 ^ 9)) lows.now }
     requires high_near { All (IsWithin (10 ^ 9)) highs.now }
-    ensures { result ≡ offset +ℤ sum_below (length columns.now) (λ j. int_min (at (costs_of columns.now) j *ℤ at lows.now j) (at (costs_of columns.now) j *ℤ at highs.now j)) }
+    ensures { result ≡ offset +ℤ sum_below (length columns.now)
+        (λ j. int_min (at (costs_of columns.now) j *ℤ at lows.now j)
+        (at (costs_of columns.now) j *ℤ at highs.now j)) }
 {
     let mut sum = offset;
     for j in 0..columns.len() {

@@ -1,5 +1,6 @@
 //! The integer program that is solved.
-ghost use Rattle.std.specs.Prelude.{◌≡◌, ◌≢◌, ◌≤◌, ◌-◌, ◌^◌, ◌↔◌, ◌≤ℤ◌, ℤ, negsuc, List, length, All, IsTrue};
+ghost use Rattle.std.specs.Prelude.{◌≡◌, ◌≢◌, ◌≤◌, ◌-◌, ◌^◌, ◌↔◌, ◌≤ℤ◌, ℤ, negsuc, List, length};
+ghost use Rattle.std.specs.Prelude.{All, IsTrue};
 ghost use Rattle.bl_problem.specs.Sums.{IsWithin};
 
 use crate::name::Name;
@@ -15,7 +16,8 @@ pub struct Term {
     pub coefficient: i64,
 }
 
-/// A column, whose entry is a whole number from `low` to `high`. Where `low` is above `high` there is none.
+/// A column, whose entry is a whole number from `low` to `high`. Where `low` is above `high`
+/// there is none.
 #[derive(Drop)]
 pub struct Column {
     pub name: Name,
@@ -46,7 +48,9 @@ pub enum Sense {
     Max,
 }
 
-/// An integer program whose value is to be minimised: at most 1,000 columns and 1,000 rows. Where the file's objective is to be maximised, costs and offset are the negatives of the file's, so that less is better inside, and values are shown negated.
+/// An integer program whose value is to be minimised: at most 1,000 columns and 1,000 rows.
+/// Where the file's objective is to be maximised, costs and offset are the negatives of the
+/// file's, so that less is better inside, and values are shown negated.
 #[derive(Drop)]
 pub struct Problem {
     columns: Items<Column>,
@@ -62,14 +66,31 @@ impl Model for Problem {
 
     ghost Value = { Program };
 
-    ghost view = { λ p. record { columns = p.columns; rows = p.rows; objective = p.objective; scale = p.scale; offset = p.offset; sense = p.sense } };
+    ghost view = { λ p. record {
+      columns = p.columns;
+      rows = p.rows;
+      objective =
+          p.objective;
+      scale = p.scale;
+      offset = p.offset;
+      sense = p.sense;
+    } };
 
-    ghost invariant = { λ p. IsProgram (record { columns = p.columns; rows = p.rows; objective = p.objective; scale = p.scale; offset = p.offset; sense = p.sense }) };
+    ghost invariant = { λ p. IsProgram (record {
+      columns = p.columns;
+      rows = p.rows;
+      objective =
+          p.objective;
+      scale = p.scale;
+      offset = p.offset;
+      sense = p.sense;
+    }) };
 }
 
 impl Problem {
     ghost use Rattle.bl_problem.specs.Program.{IsProgram};
-    ghost use Rattle.bl_problem.specs.Points.{InBox, IsFeasible, value_of, shown_of, trivial_bound_of};
+    ghost use Rattle.bl_problem.specs.Points.{InBox, IsFeasible, value_of, shown_of};
+    ghost use Rattle.bl_problem.specs.Points.{trivial_bound_of};
 
     /// The problem of these parts. Takes no memory.
     pub fn new(
@@ -80,8 +101,24 @@ impl Problem {
         offset: i128,
         sense: Sense,
     ) -> Problem
-        requires { IsProgram (record { columns = columns.items; rows = rows.items; objective = objective; scale = scale; offset = offset; sense = sense }) }
-        ensures { result ≡ record { columns = columns.items; rows = rows.items; objective = objective; scale = scale; offset = offset; sense = sense } }
+        requires { IsProgram (record {
+          columns = columns.items;
+          rows = rows.items;
+          objective =
+              objective;
+          scale = scale;
+          offset = offset;
+          sense = sense;
+        }) }
+        ensures { result ≡ record {
+          columns = columns.items;
+          rows = rows.items;
+          objective =
+              objective;
+          scale = scale;
+          offset = offset;
+          sense = sense;
+        } }
     {
         Problem {
             columns: Items::from_vec(columns),
@@ -137,7 +174,8 @@ impl Problem {
         self.sense
     }
 
-    /// A value or a bound in the file's sense, in units of 10^-scale: negated where the objective is maximised.
+    /// A value or a bound in the file's sense, in units of 10^-scale: negated where the
+    /// objective is maximised.
     pub fn shown(&self, value: i128) -> i128
         requires { value ≢ negsuc (2 ^ 127 - 1) }
         ensures { result ≡ shown_of self.now value }
@@ -164,7 +202,9 @@ impl Problem {
         is_in_box(self.columns(), point) && meets_rows(self.rows(), point)
     }
 
-    /// The bound that a box of one low and one high for each column gives, in units of 10^-scale: the offset, and for each column the lesser of cost times low and cost times high.
+    /// The bound that a box of one low and one high for each column gives, in units of
+    /// 10^-scale: the offset, and for each column the lesser of cost times low and cost times
+    /// high.
     pub fn trivial_bound(&self, lows: &[i64], highs: &[i64]) -> i128
         requires low_width { length lows.now ≡ length self.now.columns }
         requires high_width { length highs.now ≡ length self.now.columns }

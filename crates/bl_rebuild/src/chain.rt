@@ -37,7 +37,8 @@ impl<C: Drop> Chain<C> {
     }
 }
 
-/// The description that a chain stands for: the explicit piece with each change applied in order. `AllocError` where there is no memory.
+/// The description that a chain stands for: the explicit piece with each change applied in
+/// order. `AllocError` where there is no memory.
 pub fn rebuild<C: Drop>(chain: &Chain<C>) -> Result<Desc<C>, AllocError>
     requires whole { IsWhole chain.now.top }
     requires fits { FitInOrder chain.now.changes chain.now.top }

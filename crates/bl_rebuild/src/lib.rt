@@ -1,4 +1,4 @@
-//! Chains of pieces, and the description that a chain stands for.
+//! Model: chains of pieces, and the description that a chain stands for.
 #![tactic(auto)]
 
 mod chain;

@@ -35,7 +35,8 @@ fn statuses(alloc: Global) -> Result<Items<Status>, AllocError>
 }
 
 fn root(alloc: Global, highs: [i64; 2]) -> Result<Desc<Plain>, AllocError>
-    ensures { IfOk result (λ desc. IsWhole desc × (desc.cuts ≡ []) × (length desc.lows ≡ 2) × (length desc.row_status ≡ 2)) }
+    ensures { IfOk result (λ desc. IsWhole desc × (desc.cuts ≡ []) × (length desc.lows ≡ 2)
+        × (length desc.row_status ≡ 2)) }
 {
     Ok(Desc {
         lows: numbers(alloc, [0, 0])?,
@@ -56,7 +57,8 @@ fn cut(alloc: Global, serial: u32) -> Result<Shared<Plain>, AllocError>
 
 fn cuts(alloc: Global, first: u32) -> Result<Items<Shared<Plain>>, AllocError>
     requires { first < 9 }
-    ensures { IfOk result (λ items. items ≡ record { id = record { seat = 0; serial = first } } ∷ record { id = record { seat = 0; serial = first + 1 } } ∷ []) }
+    ensures { IfOk result (λ items. items ≡ record { id = record { seat = 0; serial = first } }
+        ∷ record { id = record { seat = 0; serial = first + 1 } } ∷ []) }
 {
     let mut list = Items::new(alloc);
     list.push(cut(alloc, first)?)?;
@@ -96,7 +98,8 @@ fn cuts_differ(rt: HostRuntime) -> Result<(), Fail> {
 }
 
 fn lower_high(alloc: Global) -> Result<(Desc<Plain>, Change<Plain>), AllocError>
-    ensures { IfOk result (λ made. IsWhole made.0 × Fits made.1 made.0 × ChangeHasShortLists made.1) }
+    ensures { IfOk result (λ made. IsWhole made.0 × Fits made.1 made.0
+        × ChangeHasShortLists made.1) }
 {
     let parent = root(alloc, [10, 10])?;
     let child = root(alloc, [4, 10])?;

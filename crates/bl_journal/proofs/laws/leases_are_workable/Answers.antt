@@ -1,25 +1,31 @@
-use Rattle.std.specs.Prelude.{reverse}
-use Rattle.bl_mods.proofs.Relisting.{pairs_from_apart}
-use Rattle.bl_problem.specs.Cuts.{SuitsProblem}
-use Rattle.bl_problem.specs.Cuts.{IsValidCut}
+use Rattle.std.specs.Prelude.{reverse, List}
+use Rattle.bl_problem.specs.Cuts.{SuitsProblem, IsValidCut}
 use Rattle.bl_problem.specs.declared.cut.Cut.{Cut}
+use Rattle.bl_desc.specs.declared.desc.Desc.{Desc}
+use Rattle.bl_journal.specs.declared.entry.Entry.{Entry}
+use Rattle.bl_journal.specs.Births.{IsBorn}
 use Rattle.bl_journal.specs.Descriptions.{full_of}
 use Rattle.bl_journal.proofs.Leaves.{shape, out_born}
-use Rattle.bl_journal.proofs.Lines.{full_whole, full_columns, full_rows}
-use Rattle.bl_journal.proofs.Workable.{cuts_fine, out_has_point, All-from_each}
+use Rattle.bl_journal.proofs.Workable.{cuts_fine, desc_for, out_has_point, All-from_each}
 use Rattle.bl_journal.proofs.Ranges.{leased_small, IsSmall}
 use Rattle.bl_journal.proofs.laws.leases_are_workable.Goals as goal
 
 pub returns : goal.returns
-returns c = record {
-  whole = λ p s history id seat l o. full_whole p (reverse history) id;
-  columns = λ p s history id seat l o. full_columns p (reverse history) id;
-  rows = λ p s history id seat l o. full_rows p (reverse history) id;
-  point = λ p s history id seat l o. out_has_point p s (reverse history) l.steps id seat o;
-  few = λ p s history id seat l o. (cuts_fine p s (reverse history) l.steps id (out_born p (reverse history) id seat (shape p s (reverse history) l.steps) o)).few;
-  suit = λ p s history id seat l o. All-from_each (SuitsProblem p) (full_of p (reverse history) id).cuts (cuts_fine p s (reverse history) l.steps id (out_born p (reverse history) id seat (shape p s (reverse history) l.steps) o)).suit;
-  valid = λ p s history id seat l o. All-from_each (IsValidCut p) (full_of p (reverse history) id).cuts (cuts_fine p s (reverse history) l.steps id (out_born p (reverse history) id seat (shape p s (reverse history) l.steps) o)).valid;
-  ids = λ p s history id seat l o. pairs_from_apart (λ (c : Cut). c.id) (full_of p (reverse history) id).cuts (cuts_fine p s (reverse history) l.steps id (out_born p (reverse history) id seat (shape p s (reverse history) l.steps) o)).apart;
-  lows = λ p s history id seat l o w. All-from_each IsSmall (full_of p (reverse history) id).lows (leased_small p s (reverse history) id seat l.steps w o).0;
-  highs = λ p s history id seat l o w. All-from_each IsSmall (full_of p (reverse history) id).highs (leased_small p s (reverse history) id seat l.steps w o).1;
-}
+returns c = λ p s history l id seat o.
+    let past : List Entry = reverse history in
+    let d : Desc Cut = full_of p past id in
+    let born : IsBorn p past id = out_born p past id seat (shape p s past l.steps) o in
+    let fine = cuts_fine p s past l.steps id born in
+    record {
+      desc = desc_for p s past l.steps id born;
+      point = out_has_point p s past l.steps id seat o;
+      suit = All-from_each (SuitsProblem p) d.cuts fine.suit;
+      valid = All-from_each (IsValidCut p) d.cuts fine.valid;
+      near = λ w.
+          let small = leased_small p s past id seat l.steps w o in
+          record {
+            lows = All-from_each IsSmall d.lows small.0;
+            highs =
+                All-from_each IsSmall d.highs small.1;
+          };
+    }

@@ -3,9 +3,13 @@ use Rattle.bl_journal.proofs.Ends.{done_ends, done_is_final, spent_ends, spent_i
 use Rattle.bl_journal.proofs.laws.replies_end_searches.Goals as goal
 
 pub returns : goal.returns
-returns c = record {
-  none_live = λ p s history l e. done_ends p s (reverse history) e;
-  decided = λ p s history l e. done_is_final p s (reverse history) e;
-  all_used = λ p s history l e. spent_ends p s (reverse history) l.steps e;
-  budget = λ p s history l e. spent_is_short p s (reverse history) l.steps e;
+returns c = λ p s history l. record {
+  at_done = λ e. record {
+    none_live = done_ends p s (reverse history) e;
+    decided = done_is_final p s (reverse history) e;
+  };
+  at_spent = λ e. record {
+    all_used = spent_ends p s (reverse history) l.steps e;
+    budget = spent_is_short p s (reverse history) l.steps e;
+  };
 }

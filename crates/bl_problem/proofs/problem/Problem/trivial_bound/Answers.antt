@@ -14,7 +14,10 @@ returns-clause-below c = λ x b.
     let f : FitsSigned w128 c.least_sum.result = search rules in
     let g : FitsSigned w128 c.self.inside.offset = search rules in
     let e0 = simp (to_z-of_z) at c.least_sum.ensures in
-    let sum : List Column → ℤ = λ cs. sum_below (length cs) (λ j. int_min (at (costs_of cs) j *ℤ at c.args.lows.now j) (at (costs_of cs) j *ℤ at c.args.highs.now j)) in
+    let sum : List Column → ℤ =
+    λ cs. sum_below (length cs) (λ j. int_min (at (costs_of cs) j *ℤ at c.args.lows.now j)
+    (at (costs_of cs) j *ℤ at c.args.highs.now j)) in
     let e : c.least_sum.result ≡ trivial_bound_of c.args.self.now c.args.lows.now c.args.highs.now =
-    e0 ∙ (ap (λ (cs : List Column). c.self.inside.offset +ℤ sum cs) c.columns.ensures.columns ∙ ap (λ (p : Program). p.offset +ℤ sum c.args.self.now.columns) c.self.view_is) in
+    e0 ∙ (ap (λ (cs : List Column). c.self.inside.offset +ℤ sum cs) c.columns.ensures.columns
+    ∙ ap (λ (p : Program). p.offset +ℤ sum c.args.self.now.columns) c.self.view_is) in
     rw (to_z-of_z w128 c.least_sum.result f, e) t

@@ -6,8 +6,10 @@ use Rattle.bl_rebuild.proofs.changes.Changes.push.Goals as goal
 
 pub invariant_of-self : goal.invariant_of-self
 invariant_of-self g c =
-    let p : present c.push_reserved.new.self.items ≡ present c.self.inside.pieces.items ++ c.args.change ∷ [] =
-    ap present c.push_reserved.ensures.items ∙ present-append c.self.inside.pieces.items (Some c.args.change ∷ []) in
+    let p : present c.push_reserved.new.self.items ≡ present c.self.inside.pieces.items
+    ++ c.args.change ∷ [] =
+    ap present c.push_reserved.ensures.items ∙ present-append c.self.inside.pieces.items
+    (Some c.args.change ∷ []) in
     let l1 = ap length p in
     let l2 = length-append (present c.self.inside.pieces.items) (c.args.change ∷ []) in
     let l3 = ap length c.push_reserved.ensures.items in
