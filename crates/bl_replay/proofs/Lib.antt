@@ -1,5 +1,5 @@
-pub mod Histories
-pub mod Keeping
-pub mod Chains
-pub mod Forms
-pub mod Splitting
+mod Histories
+mod Keeping
+mod Chains
+mod Forms
+mod Splitting

@@ -7,7 +7,8 @@ use Rattle.bl_desc.specs.Changes.{changed, Fits, IsWhole}
 use Rattle.bl_journal.specs.Descriptions.{left_child, right_child}
 use Rattle.bl_tree.specs.Jobs.{MayFollow}
 
--- the change fits, the place of the split is one in the box that it leaves, and both children may be told as changes of their parent
+-- the change fits, the place of the split is one in the box that it leaves, and both children
+-- may be told as changes of their parent
 pub record MaySplit (parent : Desc Cut) (common : Change Cut) (column : ℕ) (at : ℤ) : Type 0 where
   pub whole : IsWhole parent
   pub fits : Fits common parent

@@ -3,7 +3,8 @@ ghost use Rattle.std.specs.Prelude.{◌≡◌, ◌<◌, OnOk};
 ghost use Rattle.bl_problem.specs.Program.{IsProgram};
 ghost use Rattle.bl_journal.specs.declared.entry.Entry.TheVariants.{Take, Put, Back, Encode, Free};
 ghost use Rattle.bl_journal.specs.Replies.{take_reply, gives};
-ghost use Rattle.bl_journal.specs.States.{state_of, out};
+ghost use Rattle.bl_journal.specs.States.{state_of};
+ghost use Rattle.bl_journal.specs.declared.state.State.TheVariants.{Out as out};
 ghost use Rattle.bl_journal.specs.Freeing.{IsFreeChain};
 ghost use Rattle.bl_journal.specs.Legality.{IsAllowed, MayPut, MayEncode};
 ghost use Rattle.bl_tree.specs.Views.{extended, past_of};
@@ -28,7 +29,7 @@ fn take_again(tree: &mut Tree, leases: &mut Leases, seat: u32, id: u32) -> Resul
     let _journal = tree.journal();
     match tree.take(seat)? {
         Taken::Node(lease) => {
-            keep(leases, id, lease)?;
+            keep(tree, leases, id, lease)?;
             Ok(())
         }
         Taken::Idle => unreachable!(),
@@ -53,8 +54,10 @@ fn put_again(
     requires span { tree.old.settings.span ≡ span }
     requires some_span { 0 < span }
     requires held { HasLeases tree.old leases.old }
-    requires allowed { MayPut tree.old.problem tree.old.settings (past_of tree.old) seat id found.now low step.now }
-    ensures entry { OnOk result (tree.new ≡ extended tree.old (Put seat id found.now low step.now)) }
+    requires allowed { MayPut tree.old.problem tree.old.settings (past_of tree.old) seat id
+        found.now low step.now }
+    ensures entry { OnOk result
+        (tree.new ≡ extended tree.old (Put seat id found.now low step.now)) }
     ensures held { OnOk result (HasLeases tree.new leases.new) }
 {
     let _journal = tree.journal();

@@ -31,9 +31,11 @@ fn next_again(
     requires span { tree.now.settings.span ≡ span }
     requires some_span { 0 < span }
     requires leased { IsLeaseOf tree.now seat lease.now }
-    requires allowed { MayPut tree.now.problem tree.now.settings (past_of tree.now) seat lease.now.id found.now low step.now }
+    requires allowed { MayPut tree.now.problem tree.now.settings (past_of tree.now) seat
+        lease.now.id found.now low step.now }
     ensures step { IfOk result (λ next. step_of next ≡ step.now) }
-    ensures pieces { IfOk result (λ next. PiecesStored (extended tree.now (Put seat lease.now.id found.now low step.now)) next) }
+    ensures pieces { IfOk result (λ next. PiecesStored
+        (extended tree.now (Put seat lease.now.id found.now low step.now)) next) }
 {
     children_follow();
     newborns_are_stored();
@@ -90,7 +92,8 @@ pub fn outcome_again(
     requires span { tree.now.settings.span ≡ span }
     requires some_span { 0 < span }
     requires leased { IsLeaseOf tree.now seat lease.now }
-    requires allowed { MayPut tree.now.problem tree.now.settings (past_of tree.now) seat lease.now.id found.now low step.now }
+    requires allowed { MayPut tree.now.problem tree.now.settings (past_of tree.now) seat
+        lease.now.id found.now low step.now }
     ensures found { IfOk result (λ outcome. outcome.found ≡ found.now) }
     ensures low { IfOk result (λ outcome. outcome.low ≡ low) }
     ensures step { IfOk result (λ outcome. step_of outcome.next ≡ step.now) }

@@ -86,8 +86,10 @@ pub fn split_pieces(
     at: i64,
 ) -> Result<(Piece<Cut>, Piece<Cut>), AllocError>
     requires { MaySplit parent.now common.now column at }
-    ensures left { IfOk result (λ pieces. pieces.0 ≡ piece_below parent.now form (left_child (changed common.now parent.now) column at)) }
-    ensures right { IfOk result (λ pieces. pieces.1 ≡ piece_below parent.now form (right_child (changed common.now parent.now) column at)) }
+    ensures left { IfOk result (λ pieces. pieces.0
+        ≡ piece_below parent.now form (left_child (changed common.now parent.now) column at)) }
+    ensures right { IfOk result (λ pieces. pieces.1
+        ≡ piece_below parent.now form (right_child (changed common.now parent.now) column at)) }
 {
     let mut desc = parent.duplicate()?;
     apply(common, &mut desc)?;

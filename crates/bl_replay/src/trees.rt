@@ -1,7 +1,7 @@
 //! The tree that a journal was written by, made again.
 ghost use Rattle.std.specs.Prelude.{◌≡◌, ◌<◌, ◌≤◌, pos, ◌≤ℤ◌, [], IfOk, OnOk};
 ghost use Rattle.bl_problem.specs.Program.{IsProgram};
-ghost use Rattle.bl_journal.specs.declared.settings.TheConstants.{LARGEST_GAP};
+ghost use Rattle.bl_journal.specs.declared.limits.TheConstants.{LARGEST_GAP, MOST_NODES, MOST_SPAN};
 ghost use Rattle.bl_journal.specs.Legality.{IsLegal};
 
 use crate::entries::enter;
@@ -25,7 +25,12 @@ fn enter_all(
     requires some_span { 0 < span }
     requires new { tree.old.history ≡ [] }
     requires legal { IsLegal tree.old.problem tree.old.settings entries.now }
-    ensures { OnOk result (tree.new ≡ record { problem = tree.old.problem; settings = tree.old.settings; history = entries.now }) }
+    ensures { OnOk result (tree.new ≡ record {
+      problem = tree.old.problem;
+      settings =
+          tree.old.settings;
+      history = entries.now;
+    }) }
 {
     for entry in entries {
         enter(alloc, tree, leases, span, entry)?;
@@ -33,11 +38,11 @@ fn enter_all(
     Ok(())
 }
 
-/// The tree of a problem after a legal history: each entry of the journal is done again, from the first
-/// to the last. `AllocError` where there is no memory.
+/// The tree of a problem after a legal history: each entry of the journal is done again, from
+/// the first to the last. `AllocError` where there is no memory.
 ///
-/// Nothing of the search's mathematics is tested again: the caller knows that the journal is legal, as
-/// the one that a search leaves is, and so what is read back of its text.
+/// Nothing of the search's mathematics is tested again: the caller knows that the journal is
+/// legal, as the one that a search leaves is, and so what is read back of its text.
 pub fn replay(
     alloc: Global,
     problem: Arc<Problem>,
@@ -45,12 +50,13 @@ pub fn replay(
     journal: &Journal,
 ) -> Result<Tree, AllocError>
     requires span { 0 < settings.span }
-    requires short { settings.span ≤ 64 }
-    requires few { settings.nodes ≤ 100000 }
+    requires short { settings.span ≤ MOST_SPAN }
+    requires few { settings.nodes ≤ MOST_NODES }
     requires gap_some { pos 0 ≤ℤ settings.gap }
     requires gap_few { settings.gap ≤ℤ LARGEST_GAP }
     requires legal { IsLegal problem.value settings journal.now.entries }
-    ensures { IfOk result (λ tree. tree ≡ record { problem = problem.value; settings = settings; history = journal.now.entries }) }
+    ensures { IfOk result (λ tree. tree
+        ≡ record { problem = problem.value; settings = settings; history = journal.now.entries }) }
 {
     let _columns = problem.columns();
     let mut tree = Tree::new(alloc, problem, settings)?;
@@ -62,7 +68,7 @@ pub fn replay(
         settings.span,
         journal.entries(),
     );
-    let_all_go(leases);
+    let_all_go(&mut tree, leases);
     entered?;
     Ok(tree)
 }

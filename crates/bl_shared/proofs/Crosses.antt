@@ -1,6 +1,7 @@
 -- A tree may go to another thread.
 use denote.RattleType.{RattleType}
-use denote.Param.Send.{IsSend, IsSync, sendable, recorded_send, recorded_sync, struct_send, struct_sync, enum_send}
+use denote.Param.Send.{IsSend, IsSync, sendable, recorded_send, recorded_sync, struct_send}
+use denote.Param.Send.{struct_sync, enum_send}
 use denote.Struct.Declared.{shape}
 use denote.Enum.Declared.{shape as enum_shape}
 use Rattle.std.proofs.Crossing.{crosses}
@@ -139,18 +140,58 @@ status_sync = search sendable depth 20
 
 -- the fields of a struct or an enum as they stand in another one
 list_mods_fields_send : (T : RattleType) → IsSend T → IsSync T → IsSend (list_mods.the_field T).row
-list_mods_fields_send T s y = struct_send (shape (list_mods.the_type T)) (search (sendable, places_send) depth 12, (search (sendable, items_send, sharing_send) depth 12, tt))
+list_mods_fields_send T s y = struct_send (shape (list_mods.the_type T)) (
+  search (sendable, places_send) depth 12,
+  (search (sendable, items_send, sharing_send) depth 12, tt),
+)
 
 list_mods_fields_sync : (T : RattleType) → IsSend T → IsSync T → IsSync (list_mods.the_field T).row
-list_mods_fields_sync T s y = struct_sync (shape (list_mods.the_type T)) (search (sendable, places_sync) depth 12, (search (sendable, items_sync, sharing_sync) depth 12, tt))
+list_mods_fields_sync T s y = struct_sync (shape (list_mods.the_type T)) (
+  search (sendable, places_sync) depth 12,
+  (search (sendable, items_sync, sharing_sync) depth 12, tt),
+)
 
 change_send : IsSend (change.the_row cut.the_row)
 change_send =
-    recorded_send (change.the_field cut.the_row).row _ _ (change.the_type cut.the_row).to_one (struct_send (shape (change.the_type cut.the_row)) (search (sendable, field_mods_send) depth 12, (search (sendable, field_mods_send) depth 12, (list_mods_fields_send cut.the_row cut_send cut_sync, (search (sendable, field_mods_send, status_send) depth 12, (search (sendable, field_mods_send, status_send) depth 12, (search (sendable, field_mods_send, status_send) depth 12, tt)))))))
+    recorded_send (change.the_field cut.the_row).row _ _ (change.the_type cut.the_row).to_one
+    (struct_send (shape (change.the_type cut.the_row)) (
+      search (sendable, field_mods_send) depth 12,
+      (
+        search (sendable, field_mods_send) depth
+            12,
+        (
+          list_mods_fields_send cut.the_row cut_send cut_sync,
+          (
+            search (sendable, field_mods_send, status_send) depth 12,
+            (
+              search (sendable, field_mods_send, status_send) depth 12,
+              (search (sendable, field_mods_send, status_send) depth 12, tt),
+            ),
+          ),
+        ),
+      ),
+    ))
 
 change_sync : IsSync (change.the_row cut.the_row)
 change_sync =
-    recorded_sync (change.the_field cut.the_row).row _ _ (change.the_type cut.the_row).to_one (struct_sync (shape (change.the_type cut.the_row)) (search (sendable, field_mods_sync) depth 12, (search (sendable, field_mods_sync) depth 12, (list_mods_fields_sync cut.the_row cut_send cut_sync, (search (sendable, field_mods_sync, status_sync) depth 12, (search (sendable, field_mods_sync, status_sync) depth 12, (search (sendable, field_mods_sync, status_sync) depth 12, tt)))))))
+    recorded_sync (change.the_field cut.the_row).row _ _ (change.the_type cut.the_row).to_one
+    (struct_sync (shape (change.the_type cut.the_row)) (
+      search (sendable, field_mods_sync) depth 12,
+      (
+        search (sendable, field_mods_sync) depth
+            12,
+        (
+          list_mods_fields_sync cut.the_row cut_send cut_sync,
+          (
+            search (sendable, field_mods_sync, status_sync) depth 12,
+            (
+              search (sendable, field_mods_sync, status_sync) depth 12,
+              (search (sendable, field_mods_sync, status_sync) depth 12, tt),
+            ),
+          ),
+        ),
+      ),
+    ))
 
 desc_send : IsSend (desc.the_row cut.the_row)
 desc_send = search (sendable, items_send, sharing_send, status_send, cut_send, cut_sync) depth 20
@@ -159,17 +200,46 @@ desc_sync : IsSync (desc.the_row cut.the_row)
 desc_sync = search (sendable, items_sync, sharing_sync, status_sync, cut_send, cut_sync) depth 20
 
 piece_send : IsSend (piece.the_row cut.the_row)
-piece_send = search (sendable, sharing_send, desc_send, desc_sync, change_send, change_sync) depth 20
+piece_send = search (sendable, sharing_send, desc_send, desc_sync, change_send, change_sync) depth
+    20
 
 step_send : IsSend step.the_row
 step_send = search (sendable, sharing_send, change_send, change_sync) depth 20
 
 step_fields_send : IsSend step.the_field.row
-step_fields_send = enum_send (enum_shape step.the_type) (tt, ((search (sendable, sharing_send, change_send, change_sync) depth 12, (search sendable depth 12, (search sendable depth 12, tt))), tt))
+step_fields_send = enum_send (enum_shape step.the_type) (
+  tt,
+  (
+    (
+      search (sendable, sharing_send, change_send, change_sync) depth 12,
+      (search sendable depth 12, (search sendable depth 12, tt)),
+    ),
+    tt,
+  ),
+)
 
 entry_send : IsSend entry.the_row
 entry_send =
-    recorded_send entry.the_field.row _ _ entry.the_type.to_one (enum_send (enum_shape entry.the_type) (search sendable depth 12, ((search sendable depth 12, (search sendable depth 12, (search (sendable, items_send) depth 12, (search sendable depth 12, (step_fields_send, tt))))), (search sendable depth 12, (search sendable depth 12, (search (sendable, items_send) depth 12, tt))))))
+    recorded_send entry.the_field.row _ _ entry.the_type.to_one
+    (enum_send (enum_shape entry.the_type) (
+      search sendable depth 12,
+      (
+        (
+          search sendable depth 12,
+          (
+            search sendable depth 12,
+            (
+              search (sendable, items_send) depth 12,
+              (search sendable depth 12, (step_fields_send, tt)),
+            ),
+          ),
+        ),
+        (
+          search sendable depth 12,
+          (search sendable depth 12, (search (sendable, items_send) depth 12, tt)),
+        ),
+      ),
+    ))
 
 journal_send : IsSend journal.the_row
 journal_send = search (sendable, crosses, entry_send) depth 20
@@ -202,4 +272,6 @@ tree_seat_send = seat_send locked.the_row entry.the_row base.the_row ghosts lock
 
 pub shared_tree_sync : IsSync shared.the_row
 shared_tree_sync =
-    recorded_sync shared.the_field.row _ _ shared.the_type.to_one (struct_sync (shape shared.the_type) (turn_fields_sync locked.the_row entry.the_row base.the_row ghosts locked_send, tt))
+    recorded_sync shared.the_field.row _ _ shared.the_type.to_one
+    (struct_sync (shape shared.the_type)
+    (turn_fields_sync locked.the_row entry.the_row base.the_row ghosts locked_send, tt))

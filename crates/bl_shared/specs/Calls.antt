@@ -1,4 +1,5 @@
--- What a seat knows of a shared tree, and what a call does: the call of the tree, at its place in the one history.
+-- What a seat knows of a shared tree, and what a call does: the call of the tree, at its place
+-- in the one history.
 use Rattle.std.specs.Prelude.{◌≡◌, ℕ, pos, List, [], ◌∷◌, ◌++◌, Option, Some, None}
 use Rattle.bl_pool.specs.declared.key.Order.TheVariants.{Best}
 use Rattle.bl_problem.specs.declared.problem.Sense.TheVariants.{Min}
@@ -16,7 +17,8 @@ use Rattle.bl_tree.specs.declared.answer.Freed.TheVariants.{Chain, Nothing}
 use Rattle.bl_tree.specs.declared.plan.Planned.{Planned}
 use Rattle.bl_tree.specs.declared.plan.Installed.{Installed}
 use Rattle.bl_tree.specs.declared.plan.Installed.TheVariants.{Made, Same, Gone}
-use Rattle.bl_tree.specs.Views.{TreeView, LeaseView, IsLegalTree, IsLeaseOf, IsPutFor, extended, put_entry}
+use Rattle.bl_tree.specs.Views.{TreeView, LeaseView, IsLegalTree, IsLeaseOf, IsPutFor, extended}
+use Rattle.bl_tree.specs.Views.{put_entry}
 use Rattle.bl_tree.specs.Answers.{born_for, glance_for}
 use Rattle.bl_tree.specs.Calls.{Takes, Plans, Installs, Frees}
 use Rattle.bl_tree.specs.Jobs.{JobView}
@@ -45,7 +47,15 @@ first_seat t = first_view seat_of t.history (base_of_tree t)
 abbrev pub no_base : TreeBase
 no_base =
     record {
-      problem = record { columns = []; rows = []; objective = []; scale = 0; offset = pos 0; sense = Min };
+      problem = record {
+        columns = [];
+        rows = [];
+        objective = [];
+        scale = 0;
+        offset =
+            pos 0;
+        sense = Min;
+      };
       settings = record { nodes = 0; span = 1; order = Best; gap = pos 0 };
     }
 
@@ -80,10 +90,11 @@ IsSeatOf t p = IsOf t.turn p × IsAway p × HasSeen (view_of p)
 abbrev pub turned : Knows → List Entry → List Entry → Knows
 turned v others added = record v { seen = (v.seen ++ others) ++ added; mine = v.mine ++ added }
 
--- One turn. The history had gone on from what the seat had seen, by entries of others, which to seat 0
--- are seats that it gave, and it was legal. There the tree's call was made, which added these entries.
--- The seat has then seen the whole history
-pub record IsCall (v : Knows) (added : List Entry) (call : TreeView → TreeView → Type 0) (w : Knows) : Type 0 where
+-- One turn. The history had gone on from what the seat had seen, by entries of others, which to
+-- seat 0 are seats that it gave, and it was legal. There the tree's call was made, which added
+-- these entries. The seat has then seen the whole history
+pub record IsCall (v : Knows) (added : List Entry) (call : TreeView → TreeView → Type 0)
+    (w : Knows) : Type 0 where
   pub others : List Entry
   pub none_own : NoneBy seat_of v.number others
   pub from_given : v.number ≡ 0 → FromOneTo seat_of v.given others
@@ -110,7 +121,8 @@ abbrev pub PutsIn : Knows → LeaseView → Outcome → Option Born → Knows �
 PutsIn v lease outcome born w =
     IsCall v (put_entry v.number lease.id outcome ∷ [])
     (λ old new. IsPutFor old v.number lease outcome
-    × (new ≡ extended old (put_entry v.number lease.id outcome)) × (born ≡ born_for old outcome.next)) w
+    × (new ≡ extended old (put_entry v.number lease.id outcome))
+    × (born ≡ born_for old outcome.next)) w
 
 -- the lease is still the seat's, and its node is given back
 abbrev pub BacksIn : Knows → LeaseView → Knows → Type 0

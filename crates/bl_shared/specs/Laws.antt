@@ -1,81 +1,19 @@
--- Laws over histories of many seats, each in the words of its subject.
-use Rattle.std.specs.Prelude.{◌≡◌, ◌⊎◌, ℕ, ◌≤◌, Bool, true, false, List, ◌++◌, All, Contains, reverse}
-use Rattle.bl_mods.specs.declared.mods.ItemId.{ItemId}
-use Rattle.bl_problem.specs.Program.{Program}
+-- What the entries of others leave as it was.
+use Rattle.std.specs.Prelude.{ℕ, List}
 use Rattle.bl_journal.specs.declared.entry.Entry.{Entry}
-use Rattle.bl_journal.specs.declared.entry.Entry.TheVariants.{Take, Put, Back, Encode, Free}
 use Rattle.bl_journal.specs.declared.outcome.Outcome.{Outcome}
-use Rattle.bl_journal.specs.declared.settings.Settings.{Settings}
-use Rattle.bl_journal.specs.States.{out, state_of, used_of}
-use Rattle.bl_journal.specs.Replies.{is_out, take_reply, done, spent}
-use Rattle.bl_journal.specs.Legality.{seat_of, IsLegal, ids_added}
-use Rattle.bl_journal.specs.Results.{HasNoLive}
-use Rattle.bl_journal.specs.Tidying.{IsTidied}
+use Rattle.bl_journal.specs.Legality.{seat_of}
 use Rattle.bl_tree.specs.Views.{TreeView, LeaseView, IsLegalTree, IsLeaseOf, IsPutFor}
 use Rattle.bl_tree.specs.Jobs.{later}
-use Rattle.bl_turn.specs.Entries.{entries_by, NoneBy}
+use Rattle.bl_turn.specs.Entries.{NoneBy}
 
--- in a legal history a lease stays one under the entries of others, and what may be put for it may be put after them
+-- in a legal history a lease stays one under the entries of others, and what may be put for it may
+-- be put after them
 pub record LeasesOutlastOthers : Type 0 where
   pub lease : (t : TreeView) (others : List Entry) (seat : ℕ) (lease : LeaseView)
       → IsLegalTree (later t others) → NoneBy seat_of seat others
       → IsLeaseOf t seat lease → IsLeaseOf (later t others) seat lease
-  pub outcome : (t : TreeView) (others : List Entry) (seat : ℕ) (lease : LeaseView) (outcome : Outcome)
+  pub outcome :
+      (t : TreeView) (others : List Entry) (seat : ℕ) (lease : LeaseView) (outcome : Outcome)
       → IsLegalTree (later t others) → NoneBy seat_of seat others
       → IsPutFor t seat lease outcome → IsPutFor (later t others) seat lease outcome
-
--- the node is out with the seat
-abbrev pub IsOutWith : List Entry → ℕ → ℕ → Type 0
-IsOutWith history id seat = state_of (reverse history) id ≡ out seat
-
--- no node is out
-abbrev pub HasNoneOut : List Entry → Type 0
-HasNoneOut history = (id : ℕ) → is_out (state_of (reverse history) id) ≡ false
-
--- in a legal history a node is out with a seat exactly where the seat's own entries say so. Where each entry is by a seat from 0 to n, and the own entries of each of these leave no node out, none is out
-pub record HoldersAreTold : Type 0 where
-  pub told : (history : List Entry) (id seat : ℕ)
-      → IsOutWith history id seat → IsOutWith (entries_by seat_of seat history) id seat
-  pub true_told : (p : Program) (s : Settings) (history : List Entry) (id seat : ℕ) → IsLegal p s history
-      → IsOutWith (entries_by seat_of seat history) id seat → IsOutWith history id seat
-  pub none_out : (history : List Entry) (n : ℕ) → All (λ e. seat_of e ≤ n) history
-      → ((seat : ℕ) → seat ≤ n → HasNoneOut (entries_by seat_of seat history)) → HasNoneOut history
-
--- in a legal history the ids with a seat's number, among those of all cuts that were added, are ids of cuts that the seat added
-abbrev pub CutIdsAreTold : Type 0
-CutIdsAreTold =
-    (p : Program) (s : Settings) (history : List Entry) (x : ItemId) → IsLegal p s history
-    → Contains (ids_added (reverse history)) x
-    → Contains (ids_added (reverse (entries_by seat_of x.seat history))) x
-
--- the entry gives a node back
-abbrev pub is_back : Entry → Bool
-is_back (Back seat id) = true
-is_back (Take seat id) = false
-is_back (Put seat id found low next) = false
-is_back (Encode seat id form) = false
-is_back (Free seat ids) = false
-
--- no entry gives a node back
-abbrev pub HasNoBack : List Entry → Type 0
-HasNoBack entries = All (λ e. is_back e ≡ false) entries
-
--- a take would be answered that no node is live, or that one waits and as many are used as may be
-abbrev pub IsOver : Program → Settings → List Entry → Type 0
-IsOver p s past = (take_reply p s past ≡ done) ⊎ (take_reply p s past ≡ spent)
-
--- in a legal history, where no node is live none is ever live again, and where as many nodes are used as may be they stay used until one is given back. So a search is over where no node is out, if it was over before and none was given back since
-pub record SearchesEnd : Type 0 where
-  pub none_live : (p : Program) (s : Settings) (history rest : List Entry) → IsLegal p s (history ++ rest)
-      → HasNoLive p s (reverse history) → HasNoLive p s (reverse (history ++ rest))
-  pub all_used : (p : Program) (s : Settings) (history rest : List Entry) → IsLegal p s (history ++ rest)
-      → HasNoBack rest → used_of (reverse history) ≡ s.nodes → used_of (reverse (history ++ rest)) ≡ s.nodes
-  pub over : (p : Program) (s : Settings) (history rest : List Entry) → IsLegal p s (history ++ rest)
-      → HasNoneOut (history ++ rest) → HasNoBack rest
-      → IsOver p s (reverse history) → IsOver p s (reverse (history ++ rest))
-
--- a seat that has tidied stays so under the entries of others
-abbrev pub SeatsStayTidy : Type 0
-SeatsStayTidy =
-    (p : Program) (s : Settings) (seat : ℕ) (history others : List Entry) → NoneBy seat_of seat others
-    → IsTidied p s seat (reverse history) → IsTidied p s seat (reverse (history ++ others))

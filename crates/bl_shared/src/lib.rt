@@ -1,6 +1,7 @@
 //! Search: a search tree that threads share, where each call is one turn at a lock.
 //!
-//! All turns fall into one legal history. A seat has seen a beginning of it, and knows its own entries.
+//! All turns fall into one legal history. A seat has seen a beginning of it, and knows its own
+//! entries.
 #![tactic(auto)]
 
 pub mod laws;

@@ -9,7 +9,7 @@ ghost use Rattle.bl_tree.specs.Jobs.{IsJobOf};
 use bl_desc::Form;
 use bl_journal::{Entry, Outcome, Settings};
 use bl_problem::Problem;
-use bl_tree::{Born, Freed, Glance, Installed, Job, Lease, Planned, Taken, Tree};
+use bl_tree::{Born, Freed, Glance, Job, Lease, Planned, SpentJob, Taken, Tree};
 use bl_turn::Told;
 use std::alloc::AllocError;
 
@@ -89,7 +89,7 @@ impl LockedTree {
         self.tree.plan(id, form)
     }
 
-    pub(crate) fn install(&mut self, seat: u32, job: Job) -> Result<Installed, AllocError>
+    pub(crate) fn install(&mut self, seat: u32, job: Job) -> Result<SpentJob, AllocError>
         requires { IsJobOf self.old.tree job }
         ensures installed { IfOk result (λ answer.
             Installs self.old.tree seat job answer self.new.tree) }

@@ -1,5 +1,6 @@
 //! The shared tree and its calls.
-ghost use Rattle.std.specs.Prelude.{◌≡◌, ◌<◌, ◌≤◌, ◌++◌, ℕ, length, All, Contains, IfOk, IfErr, OnErr};
+ghost use Rattle.std.specs.Prelude.{◌≡◌, ◌<◌, ◌≤◌, ◌++◌, ℕ, length, All, Contains, IfOk, IfErr};
+ghost use Rattle.std.specs.Prelude.{OnErr};
 ghost use Rattle.bl_turn.specs.Entries.{entries_by, FromOneTo, BeginsWith};
 ghost use Rattle.bl_turn.specs.Views.{new_view, split_view, joined_view};
 ghost use Rattle.bl_turn.specs.Seats.{view_of, number, base_of, given, seen, mine, ended};
@@ -22,15 +23,16 @@ use std::sync::Wait;
 
 /// A seat at a shared tree, by which one thread calls it.
 ///
-/// It has seen the tree's history up to and with its last call. A call's conditions are read at what
-/// the seat has seen: others may have called since, and what held for the seat then holds still.
+/// It has seen the tree's history up to and with its last call. A call's conditions are read at
+/// what the seat has seen: others may have called since, and what held for the seat then holds
+/// still.
 pub type TreeSeat = Seat<LockedTree>;
 
 /// A search tree that threads share.
 ///
-/// Each call is one turn at the lock. It is the tree's call of its name, at the history that the turn
-/// finds: what the seat had seen, and then entries of others. After it the seat has seen that history
-/// and the call's own entry, if it has one. All turns fall into one legal history.
+/// Each call is one turn at the lock. It is the tree's call of its name, at the history that the
+/// turn finds: what the seat had seen, and then entries of others. After it the seat has seen
+/// that history and the call's own entry, if it has one. All turns fall into one legal history.
 pub struct SharedTree {
     turn: Turn<LockedTree>,
 }
@@ -88,8 +90,8 @@ impl SharedTree {
 
     /// Ends the sharing, once seat 0 took in all seats that it gave, and hands the tree back.
     ///
-    /// Its history is what seat 0 has seen. The entries of each number that had a seat are those that
-    /// the seat made.
+    /// Its history is what seat 0 has seen. The entries of each number that had a seat are those
+    /// that the seat made.
     pub fn close(self, seat: TreeSeat) -> Tree
         requires seat { IsSeatOf self seat }
         requires first { number seat ≡ 0 }
@@ -118,9 +120,9 @@ impl SharedTree {
         self.take_with(rt, seat, false)
     }
 
-    /// Takes as `take` does. Where that is answered Idle it sleeps before it answers, until some seat
-    /// puts or gives back, if none did since. Call it where other threads have the nodes that are out,
-    /// and take again after Idle.
+    /// Takes as `take` does. Where that is answered Idle it sleeps before it answers, until some
+    /// seat puts or gives back, if none did since. Call it where other threads have the nodes
+    /// that are out, and take again after Idle.
     ///
     /// `AllocError` where there is no memory; the tree is then as it was.
     pub fn take_or_sleep<R: Wait>(&self, rt: &R, seat: &mut TreeSeat) -> Result<Taken, AllocError>
@@ -217,8 +219,9 @@ impl SharedTree {
         self.turn.wake();
     }
 
-    /// Plans to store a node in another form. The plan is encoded without the lock, and what is made of
-    /// it is installed: what either says of its node stays so, whatever is entered meanwhile.
+    /// Plans to store a node in another form. The plan is encoded without the lock, and what is
+    /// made of it is installed: what either says of its node stays so, whatever is entered
+    /// meanwhile.
     ///
     /// `AllocError` where there is no memory.
     pub fn plan<R: Wait>(
@@ -250,7 +253,7 @@ impl SharedTree {
         }
     }
 
-    /// Stores a node as a job has it.
+    /// Stores a node as a job has it. The piece that is left over goes after the turn.
     ///
     /// `AllocError` where there is no memory; the tree is then as it was.
     pub fn install<R: Wait>(
@@ -270,21 +273,23 @@ impl SharedTree {
         let number = seat.number();
         let mut held = self.turn.enter(rt, seat);
         match held.value().install(number, job) {
-            Ok(Installed::Made) => {
-                held.commit();
-                held.leave();
-                Ok(Installed::Made)
-            }
-            Ok(Installed::Same) => {
-                held.look();
-                held.leave();
-                Ok(Installed::Same)
-            }
-            Ok(Installed::Gone) => {
-                held.look();
-                held.leave();
-                Ok(Installed::Gone)
-            }
+            Ok(spent) => match spent.installed() {
+                Installed::Made => {
+                    held.commit();
+                    held.leave();
+                    Ok(Installed::Made)
+                }
+                Installed::Same => {
+                    held.look();
+                    held.leave();
+                    Ok(Installed::Same)
+                }
+                Installed::Gone => {
+                    held.look();
+                    held.leave();
+                    Ok(Installed::Gone)
+                }
+            },
             Err(error) => {
                 held.look();
                 held.leave();
@@ -293,22 +298,25 @@ impl SharedTree {
         }
     }
 
-    /// Frees the least node that may be freed, and then each parent in turn as long as it may be.
+    /// Frees the least node that may be freed, and then each parent in turn as long as it may
+    /// be. What was stored of them comes back with their numbers, so that it goes after the
+    /// turn.
     ///
     /// `AllocError` where there is no memory; the tree is then as it was.
     pub fn free<R: Wait>(&self, rt: &R, seat: &mut TreeSeat) -> Result<Freed, AllocError>
         requires seat { IsSeatOf self.now seat.old }
         ensures seat { IsSeatOf self.now seat.new }
-        ensures freed { IfOk result (λ answer. FreesIn (view_of seat.old) answer (view_of seat.new)) }
+        ensures freed { IfOk result
+            (λ answer. FreesIn (view_of seat.old) answer (view_of seat.new)) }
         ensures err { OnErr result (LooksIn (view_of seat.old) (view_of seat.new)) }
     {
         let number = seat.number();
         let mut held = self.turn.enter(rt, seat);
         match held.value().free(number) {
-            Ok(Freed::Chain(ids)) => {
+            Ok(Freed::Chain(nodes)) => {
                 held.commit();
                 held.leave();
-                Ok(Freed::Chain(ids))
+                Ok(Freed::Chain(nodes))
             }
             Ok(Freed::Nothing) => {
                 held.look();

@@ -1,5 +1,6 @@
 -- What the calls of a tree answer.
-use Rattle.std.specs.Prelude.{ℕ, Bool, false, ◌+◌, ◌<◌, ℤ, length, filter, Option, Some, None, if◌then◌else◌, nat_lt}
+use Rattle.std.specs.Prelude.{ℕ, Bool, false, ◌+◌, ◌<◌, ℤ, length, filter, Option, Some, None}
+use Rattle.std.specs.Prelude.{if◌then◌else◌, nat_lt}
 use Rattle.bl_problem.specs.declared.cut.Cut.{Cut}
 use Rattle.bl_desc.specs.declared.desc.Piece.{Piece}
 use Rattle.bl_desc.specs.declared.desc.Form.{Form}
@@ -12,14 +13,18 @@ use Rattle.bl_tree.specs.declared.answer.Glance.{Glance}
 use Rattle.bl_tree.specs.declared.answer.Encoding.{Encoding}
 use Rattle.bl_tree.specs.declared.answer.Encoding.TheVariants.{Open, Same, Fixed, Gone}
 use Rattle.bl_tree.specs.declared.plan.Installed.{Installed}
-use Rattle.bl_tree.specs.declared.plan.Installed.TheVariants.{Made as InstalledMade, Same as InstalledSame, Gone as InstalledGone}
+use Rattle.bl_tree.specs.declared.plan.Installed.TheVariants.{Made as InstalledMade}
+use Rattle.bl_tree.specs.declared.plan.Installed.TheVariants.{Same as InstalledSame}
+use Rattle.bl_tree.specs.declared.plan.Installed.TheVariants.{Gone as InstalledGone}
 use Rattle.bl_tree.specs.declared.answer.Answer.{Answer}
 use Rattle.bl_tree.specs.declared.answer.Answer.TheVariants.{Optimal, Within, Infeasible, Bounded}
 use Rattle.bl_journal.specs.Births.{nodes_of, node_at}
-use Rattle.bl_journal.specs.States.{state_of, Found, best_of, value_if, value_less, used_of, form_of, is_spanned}
+use Rattle.bl_journal.specs.States.{state_of, Found, best_of, value_if, value_less, used_of}
+use Rattle.bl_journal.specs.States.{form_of, is_spanned}
 use Rattle.bl_journal.specs.Replies.{ids_of, is_out}
 use Rattle.bl_journal.specs.Pieces.{stored_of, held_of, is_freed}
-use Rattle.bl_journal.specs.Results.{Verdict, optimal, within, infeasible, bounded, answer_of, final, lesser_of}
+use Rattle.bl_journal.specs.Results.{Verdict, optimal, within, infeasible, bounded, answer_of}
+use Rattle.bl_journal.specs.Results.{final, lesser_of}
 use Rattle.bl_tree.specs.Views.{TreeView, past_of}
 
 abbrev pub born_count : TreeView → ℕ
@@ -30,12 +35,14 @@ IsBorn t id = id < born_count t
 
 abbrev pub born_for : TreeView → Next → Option Born
 born_for t Shut = None
-born_for t (Split common column at left right) = Some (record { left = born_count t; right = born_count t + 1 })
+born_for t (Split common column at left right) =
+    Some (record { left = born_count t; right = born_count t + 1 })
 
 abbrev pub stored_for : TreeView → ℕ → Option (Piece Cut)
 stored_for t id =
     if nat_lt id (born_count t)
-    then (if is_freed (state_of (past_of t) id) then None else Some (stored_of t.problem t.settings (past_of t) id))
+    then (if is_freed (state_of (past_of t) id) then None
+    else Some (stored_of t.problem t.settings (past_of t) id))
     else None
 
 abbrev pub held_for : TreeView → ℕ
@@ -85,22 +92,28 @@ encoding_from t id Relative Relative = Same
 encoding_from t id Relative Explicit = Open
 encoding_from t id Explicit Relative = related_for t id
 
--- Gone where the node is freed; else Same where it has the form; else Fixed where Relative is asked and the span divides its depth; else Gone where Relative is asked and its parent is freed; else Open
+-- Gone where the node is freed; else Same where it has the form; else Fixed where Relative is
+-- asked and the span divides its depth; else Gone where Relative is asked and its parent is
+-- freed; else Open
 abbrev pub encoding_for : TreeView → ℕ → Form → Encoding
 encoding_for t id form =
-    if is_freed (state_of (past_of t) id) then Gone else encoding_from t id (form_of t.problem t.settings (past_of t) id) form
+    if is_freed (state_of (past_of t) id) then Gone
+    else encoding_from t id (form_of t.problem t.settings (past_of t) id) form
 
 -- where the node is not freed
 abbrev pub installed_from : TreeView → ℕ → Form → Form → Installed
 installed_from t id Explicit Explicit = InstalledSame
 installed_from t id Relative Relative = InstalledSame
 installed_from t id Relative Explicit = InstalledMade
-installed_from t id Explicit Relative = if is_freed_if t (node_at t.problem (past_of t) id).parent then InstalledGone else InstalledMade
+installed_from t id Explicit Relative = if is_freed_if t (node_at t.problem (past_of t) id).parent
+    then InstalledGone else InstalledMade
 
--- Gone where the node is freed, or the form is relative and its parent is freed; else Same where it has the form; else Made
+-- Gone where the node is freed, or the form is relative and its parent is freed; else Same where
+-- it has the form; else Made
 abbrev pub installed_for : TreeView → ℕ → Form → Installed
 installed_for t id form =
-    if is_freed (state_of (past_of t) id) then InstalledGone else installed_from t id (form_of t.problem t.settings (past_of t) id) form
+    if is_freed (state_of (past_of t) id) then InstalledGone
+    else installed_from t id (form_of t.problem t.settings (past_of t) id) form
 
 -- the same, from how the node stands to the form
 abbrev pub installed_as : Encoding → Installed

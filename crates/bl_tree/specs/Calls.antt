@@ -6,9 +6,14 @@ use Rattle.bl_tree.specs.declared.answer.Freed.{Freed}
 use Rattle.bl_tree.specs.declared.answer.Freed.TheVariants.{Chain, Nothing}
 use Rattle.bl_tree.specs.declared.answer.Encoding.TheVariants.{Open, Same, Fixed, Gone}
 use Rattle.bl_tree.specs.declared.plan.Planned.{Planned}
-use Rattle.bl_tree.specs.declared.plan.Planned.TheVariants.{Gone as PlannedGone, Same as PlannedSame, Fixed as PlannedFixed, Chain as PlannedChain}
+use Rattle.bl_tree.specs.declared.plan.Planned.TheVariants.{Gone as PlannedGone}
+use Rattle.bl_tree.specs.declared.plan.Planned.TheVariants.{Same as PlannedSame}
+use Rattle.bl_tree.specs.declared.plan.Planned.TheVariants.{Fixed as PlannedFixed}
+use Rattle.bl_tree.specs.declared.plan.Planned.TheVariants.{Chain as PlannedChain}
 use Rattle.bl_tree.specs.declared.plan.Installed.{Installed}
-use Rattle.bl_tree.specs.declared.plan.Installed.TheVariants.{Made as InstalledMade, Same as InstalledSame, Gone as InstalledGone}
+use Rattle.bl_tree.specs.declared.plan.Installed.TheVariants.{Made as InstalledMade}
+use Rattle.bl_tree.specs.declared.plan.Installed.TheVariants.{Same as InstalledSame}
+use Rattle.bl_tree.specs.declared.plan.Installed.TheVariants.{Gone as InstalledGone}
 use Rattle.bl_tree.specs.declared.lease.Taken.{Taken}
 use Rattle.bl_tree.specs.declared.lease.Taken.TheVariants.{Node, Idle, Done, Spent}
 use Rattle.bl_journal.specs.Replies.{take_reply, gives, idle, done, spent}
@@ -31,7 +36,8 @@ Takes old seat Idle new = (take_reply old.problem old.settings (past_of old) ≡
 Takes old seat Done new = (take_reply old.problem old.settings (past_of old) ≡ done) × (new ≡ old)
 Takes old seat Spent new = (take_reply old.problem old.settings (past_of old) ≡ spent) × (new ≡ old)
 
--- the least node that may be freed and then each parent in turn are freed, and fewer nodes stand; or none may be freed
+-- the least node that may be freed and then each parent in turn are freed, and fewer nodes
+-- stand; or none may be freed
 abbrev pub Frees : TreeView → ℕ → Freed → TreeView → Type 0
 Frees old seat (Chain ids) new =
     IsFreeChain old.problem old.settings (past_of old) ids × (new ≡ extended old (Free seat ids))
@@ -55,4 +61,5 @@ installed t seat job InstalledSame = t
 installed t seat job InstalledGone = t
 
 abbrev pub Installs : TreeView → ℕ → JobView → Installed → TreeView → Type 0
-Installs old seat job answer new = (answer ≡ installed_for old job.id job.form) × (new ≡ installed old seat job answer)
+Installs old seat job answer new = (answer ≡ installed_for old job.id job.form)
+    × (new ≡ installed old seat job answer)

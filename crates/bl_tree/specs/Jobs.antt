@@ -1,10 +1,12 @@
 -- Plans to store a node in another form, and the jobs that are made of them outside the tree.
-use Rattle.std.specs.Prelude.{◌≡◌, ◌≢◌, ◌<◌, ◌^◌, ℕ, false, List, [], ◌++◌, length, AllPairs, Option, Some, None}
+use Rattle.std.specs.Prelude.{◌≡◌, ◌≢◌, ◌<◌, ◌^◌, ℕ, false, List, [], ◌++◌, length, AllPairs}
+use Rattle.std.specs.Prelude.{Option, Some, None}
 use Rattle.bl_problem.specs.declared.cut.Cut.{Cut}
 use Rattle.bl_mods.specs.Mods.{IsPartThenFresh}
 use Rattle.bl_desc.specs.declared.desc.Desc.{Desc}
 use Rattle.bl_desc.specs.declared.desc.Form.{Form}
-use Rattle.bl_desc.specs.declared.desc.Form.TheVariants.{Explicit as ExplicitForm, Relative as RelativeForm}
+use Rattle.bl_desc.specs.declared.desc.Form.TheVariants.{Explicit as ExplicitForm}
+use Rattle.bl_desc.specs.declared.desc.Form.TheVariants.{Relative as RelativeForm}
 use Rattle.bl_desc.specs.declared.desc.Piece.{Piece}
 use Rattle.bl_desc.specs.declared.desc.Piece.TheVariants.{Explicit, Relative}
 use Rattle.bl_desc.specs.Changes.{IsWhole, difference}
@@ -17,7 +19,8 @@ use Rattle.bl_journal.specs.Pieces.{piece_in, rebuilt, chain_of}
 use Rattle.bl_tree.specs.Chains.{IsApplicable, described_by}
 use Rattle.bl_tree.specs.Views.{TreeView, past_of, IsLegalTree, pieces_of}
 
--- a node, the form that is asked, the chain that stands for the node, and where the form is relative the chain that stands for its parent
+-- a node, the form that is asked, the chain that stands for the node, and where the form is
+-- relative the chain that stands for its parent
 pub record PlanView : Type 0 where
   pub id : ℕ
   pub form : Form
@@ -40,7 +43,8 @@ abbrev pub form_below : Option (Chain Cut) → Form
 form_below None = ExplicitForm
 form_below (Some above) = RelativeForm
 
--- the second description may be told as a change of the first: they are of one problem, and the second one's cuts are a part of the first one's and then fresh ones
+-- the second description may be told as a change of the first: they are of one problem, and the
+-- second one's cuts are a part of the first one's and then fresh ones
 pub record MayFollow (parent child : Desc Cut) : Type 0 where
   pub parent_whole : IsWhole parent
   pub child_whole : IsWhole child
@@ -64,10 +68,12 @@ abbrev pub StandsForParent : TreeView → List (Piece Cut) → Option ℕ → Ty
 StandsForParent t chain None = ⊥
 StandsForParent t chain (Some q) = rebuilt chain ≡ Some (full_of t.problem (past_of t) q)
 
--- where the form is relative: the span does not divide the node's depth, and the second chain stands for its parent
+-- where the form is relative: the span does not divide the node's depth, and the second chain
+-- stands for its parent
 abbrev pub MayBeRelated : TreeView → ℕ → List (Piece Cut) → Form → Type 0
 MayBeRelated t id above ExplicitForm = Unit {0}
-MayBeRelated t id above RelativeForm = (is_spanned t.problem t.settings (past_of t) id ≡ false) × StandsForParent t above (node_at t.problem (past_of t) id).parent
+MayBeRelated t id above RelativeForm = (is_spanned t.problem t.settings (past_of t) id ≡ false)
+    × StandsForParent t above (node_at t.problem (past_of t) id).parent
 
 -- the pieces that stand for the parent, where the form is relative
 abbrev pub pieces_above : TreeView → Option ℕ → Form → List (Piece Cut)
@@ -96,7 +102,8 @@ abbrev pub MayHaveForm : TreeView → ℕ → Form → Type 0
 MayHaveForm t id ExplicitForm = Unit {0}
 MayHaveForm t id RelativeForm = is_spanned t.problem t.settings (past_of t) id ≡ false
 
--- a job for this tree: its piece is the node's full description, or the canonical difference from its parent's
+-- a job for this tree: its piece is the node's full description, or the canonical difference
+-- from its parent's
 pub record IsJobOf (t : TreeView) (job : JobView) : Type 0 where
   pub born : job.id < length (nodes_of t.problem (past_of t))
   pub piece : job.piece ≡ piece_in t.problem (past_of t) job.id job.form
@@ -117,16 +124,24 @@ pub record IsMadeOf (plan : PlanView) (job : JobView) : Type 0 where
 
 -- the tree after some more entries
 abbrev pub later : TreeView → List Entry → TreeView
-later t entries = record { problem = t.problem; settings = t.settings; history = t.history ++ entries }
+later t entries = record {
+  problem = t.problem;
+  settings = t.settings;
+  history =
+      t.history ++ entries;
+}
 
 -- a plan of a tree stays one, whatever is entered later
 abbrev pub PlansStay : Type 0
-PlansStay = (t : TreeView) (entries : List Entry) (plan : PlanView) → IsLegalTree t → IsPlanOf t plan → IsPlanOf (later t entries) plan
+PlansStay = (t : TreeView) (entries : List Entry) (plan : PlanView) → IsLegalTree t
+    → IsPlanOf t plan → IsPlanOf (later t entries) plan
 
 -- a job for a tree stays one, whatever is entered later
 abbrev pub JobsStay : Type 0
-JobsStay = (t : TreeView) (entries : List Entry) (job : JobView) → IsLegalTree t → IsJobOf t job → IsJobOf (later t entries) job
+JobsStay = (t : TreeView) (entries : List Entry) (job : JobView) → IsLegalTree t → IsJobOf t job
+    → IsJobOf (later t entries) job
 
 -- what is made of a plan of a tree is a job for that tree
 abbrev pub PlansMakeJobs : Type 0
-PlansMakeJobs = (t : TreeView) (plan : PlanView) (job : JobView) → IsPlanOf t plan → IsMadeOf plan job → IsJobOf t job
+PlansMakeJobs = (t : TreeView) (plan : PlanView) (job : JobView) → IsPlanOf t plan
+    → IsMadeOf plan job → IsJobOf t job

@@ -1,5 +1,6 @@
 pub mod Views
 pub mod Records
+pub mod Kept
 pub mod Calls
 pub mod Answers
 pub mod Chains

@@ -1,5 +1,8 @@
 -- What the tree keeps of its nodes, and how that follows its history.
-use Rattle.std.specs.Prelude.{map, filter, fold, ◌≡◌, ◌⊎◌, ℕ, ◌+◌, ◌*◌, ◌≤◌, ◌<◌, ℤ, pos, ◌≤ℤ◌, int_lt, Bool, true, false, not, ◌&&◌, ◌||◌, ◌==◌, List, [], ◌∷◌, length, count_by, slice_get, slice_set, IfSome, is_some, Option, Some, None, reverse, if◌then◌else◌}
+use Rattle.std.specs.Prelude.{map, filter, fold, ◌≡◌, ◌⊎◌, ℕ, ◌+◌, ◌*◌, ◌≤◌, ◌<◌, ℤ, pos, ◌≤ℤ◌}
+use Rattle.std.specs.Prelude.{int_lt, Bool, true, false, not, ◌&&◌, ◌||◌, ◌==◌, List, [], ◌∷◌}
+use Rattle.std.specs.Prelude.{length, count_by, slice_get, slice_set, IfSome, is_some, Option}
+use Rattle.std.specs.Prelude.{Some, None, reverse, if◌then◌else◌}
 use Rattle.std.specs.Int.{int_min}
 use Rattle.bl_problem.specs.Program.{Program}
 use Rattle.bl_problem.specs.declared.cut.Cut.{Cut}
@@ -11,49 +14,31 @@ use Rattle.bl_desc.specs.Weights.{weight_of}
 use Rattle.bl_journal.specs.declared.entry.Entry.{Entry}
 use Rattle.bl_journal.specs.declared.entry.Entry.TheVariants.{Take, Put, Back, Encode, Free}
 use Rattle.bl_journal.specs.declared.settings.Settings.{Settings}
-use Rattle.bl_journal.specs.declared.settings.TheConstants.{LARGEST_GAP}
+use Rattle.bl_journal.specs.declared.limits.TheConstants.{LARGEST_GAP, MOST_NODES, MOST_SPAN}
 use Rattle.bl_pool.specs.declared.key.Order.{Order}
 use Rattle.bl_pool.specs.declared.key.Order.TheVariants.{Best}
 use Rattle.bl_pool.specs.declared.key.Key.{Key}
 use Rattle.bl_pool.specs.Views.{PoolView, key_in}
 use Rattle.bl_tree.specs.declared.record.Record.{Record}
-use Rattle.bl_tree.specs.declared.record.Stage.{Stage}
-use Rattle.bl_tree.specs.declared.record.Stage.TheVariants.{Waiting, Out, Parted, Closed, Gone}
 use Rattle.bl_journal.specs.Births.{nodes_of, node_at}
 use Rattle.bl_journal.specs.Descriptions.{full_of}
-use Rattle.bl_journal.specs.States.{State, waiting, out, split, shut, freed, state_of, has_point, is_below, used_of, best_of, cutoff_for, value_if, Found}
+use Rattle.bl_journal.specs.States.{state_of, has_point, is_below, used_of, best_of, cutoff_for}
+use Rattle.bl_journal.specs.States.{value_if, Found}
+use Rattle.bl_journal.specs.declared.state.State.{State}
+use Rattle.bl_journal.specs.declared.state.State.TheVariants.{Waiting as waiting, Out as out}
+use Rattle.bl_journal.specs.declared.state.State.TheVariants.{Split as split, Shut as shut}
+use Rattle.bl_journal.specs.declared.state.State.TheVariants.{Freed as freed}
 use Rattle.bl_journal.specs.Legality.{IsLegalPast}
-use Rattle.bl_journal.specs.Replies.{is_waiting}
+use Rattle.bl_journal.specs.Replies.{is_waiting, is_out}
 use Rattle.bl_journal.specs.Pieces.{is_freed, stored_of}
-use Rattle.bl_journal.specs.Freeing.{is_parent, is_freeable}
-
-abbrev pub stage_state : Stage → State
-stage_state Waiting = waiting
-stage_state (Out seat) = out seat
-stage_state Parted = split
-stage_state Closed = shut
-stage_state Gone = freed
-
-abbrev pub is_waiting_stage : Stage → Bool
-is_waiting_stage Waiting = true
-is_waiting_stage (Out seat) = false
-is_waiting_stage Parted = false
-is_waiting_stage Closed = false
-is_waiting_stage Gone = false
-
-abbrev pub is_out_stage : Stage → Bool
-is_out_stage Waiting = false
-is_out_stage (Out seat) = true
-is_out_stage Parted = false
-is_out_stage Closed = false
-is_out_stage Gone = false
+use Rattle.bl_journal.specs.Freeing.{is_parent, is_freeable, is_over}
 
 abbrev pub is_out_if : Option Record → Bool
 is_out_if None = false
-is_out_if (Some r) = is_out_stage r.stage
+is_out_if (Some r) = is_out r.stage
 
 abbrev pub waits : Option ℤ → Record → Bool
-waits cutoff r = is_waiting_stage r.stage && (r.has_point && is_below r.low cutoff)
+waits cutoff r = is_waiting r.stage && (r.has_point && is_below r.low cutoff)
 
 abbrev pub waits_if : Option ℤ → Option Record → Bool
 waits_if cutoff None = false
@@ -63,12 +48,22 @@ waits_if cutoff (Some r) = waits cutoff r
 abbrev pub best_value_with : Program → Option ℤ → Option (List ℤ) → Option ℤ
 best_value_with p best None = best
 best_value_with p None (Some x) = Some (value_of p x)
-best_value_with p (Some b) (Some x) = if int_lt (value_of p x) b then Some (value_of p x) else Some b
+best_value_with p (Some b) (Some x) = if int_lt (value_of p x) b then Some (value_of p x)
+    else Some b
 
 -- the record of a new child
 abbrev pub fresh_record : ℕ → ℕ → ℤ → Bool → Piece Cut → Record
 fresh_record parent depth low open_box piece =
-    record { parent = Some parent; children = None; depth = depth; low = low; stage = Waiting; has_point = open_box; piece = Some piece }
+    record {
+      parent = Some parent;
+      children = None;
+      depth = depth;
+      low = low;
+      stage =
+          waiting;
+      has_point = open_box;
+      piece = Some piece;
+    }
 
 abbrev pub box_has_point : Desc Cut → Bool
 box_has_point d = has_point d.lows d.highs
@@ -76,7 +71,16 @@ box_has_point d = has_point d.lows d.highs
 -- the record of the root
 abbrev pub root_record : ℤ → Desc Cut → Record
 root_record low d =
-    record { parent = None; children = None; depth = 0; low = low; stage = Waiting; has_point = box_has_point d; piece = Some (Explicit d) }
+    record {
+      parent = None;
+      children = None;
+      depth = 0;
+      low = low;
+      stage = waiting;
+      has_point =
+          box_has_point d;
+      piece = Some (Explicit d);
+    }
 
 -- the node is one of the two children, of which the first is known
 abbrev pub is_child_in : Option ℕ → ℕ → Bool
@@ -87,55 +91,59 @@ abbrev pub has_children : Option ℕ → Bool
 has_children None = false
 has_children (Some c) = true
 
-abbrev pub was_parted : Stage → Bool
-was_parted Waiting = false
-was_parted (Out seat) = false
-was_parted Parted = true
-was_parted Closed = false
-was_parted Gone = true
+abbrev pub was_parted : State → Bool
+was_parted waiting = false
+was_parted (out seat) = false
+was_parted split = true
+was_parted shut = false
+was_parted freed = true
 
 -- what is stored of the node; nothing where it is freed
 abbrev pub piece_at : Program → Settings → List Entry → ℕ → Option (Piece Cut)
 piece_at p s past id = if is_freed (state_of past id) then None else Some (stored_of p s past id)
 
 -- how the node is stored, and where its parent and its children are
-pub record IsStoredOf (p : Program) (s : Settings) (past : List Entry) (id : ℕ) (r : Record) : Type 0 where
+pub record IsStoredOf (p : Program) (s : Settings) (past : List Entry) (id : ℕ) (r : Record) :
+    Type 0 where
   pub parent : r.parent ≡ (node_at p past id).parent
-  pub children : (q : ℕ) → q < length (nodes_of p past) → is_parent (node_at p past q).parent id ≡ is_child_in r.children q
+  pub children : (q : ℕ) → q < length (nodes_of p past) → is_parent (node_at p past q).parent id
+      ≡ is_child_in r.children q
   pub within : IfSome r.children (λ c. c + 1 < length (nodes_of p past))
   pub parted : has_children r.children ≡ true → was_parted r.stage ≡ true
   pub piece : r.piece ≡ piece_at p s past id
 
 abbrev pub AreStored : Program → Settings → List Entry → List Record → Type 0
-AreStored p s past records = (id : ℕ) (r : Record) → slice_get records id ≡ Some r → IsStoredOf p s past id r
+AreStored p s past records = (id : ℕ) (r : Record) → slice_get records id ≡ Some r
+    → IsStoredOf p s past id r
 
 -- the record of the node
 pub record IsRecordOf (p : Program) (past : List Entry) (id : ℕ) (r : Record) : Type 0 where
   pub depth : r.depth ≡ (node_at p past id).depth
   pub low : r.low ≡ (node_at p past id).low
-  pub stage : stage_state r.stage ≡ state_of past id
+  pub stage : r.stage ≡ state_of past id
   pub has_point : r.has_point ≡ has_point (full_of p past id).lows (full_of p past id).highs
 
 pub record AreRecords (p : Program) (past : List Entry) (records : List Record) : Type 0 where
   pub count : length records ≡ length (nodes_of p past)
   pub each : (id : ℕ) (r : Record) → slice_get records id ≡ Some r → IsRecordOf p past id r
 
-pub record IsKept (p : Program) (s : Settings) (past : List Entry) (room capacity : ℕ) (kept : List Record) (taken : ℕ) (best : Option ℤ) : Type 0 where
+pub record IsKept (p : Program) (s : Settings) (past : List Entry) (room capacity : ℕ)
+    (kept : List Record) (taken : ℕ) (best : Option ℤ) : Type 0 where
   pub legal : IsLegalPast p s past
   pub span_some : 0 < s.span
-  pub span_few : s.span ≤ 64
+  pub span_few : s.span ≤ MOST_SPAN
   pub records : AreRecords p past kept
   pub storage : AreStored p s past kept
   pub used : taken ≡ used_of past
   pub best_is : best ≡ value_if (best_of p past)
-  pub room_is : count_by (λ r. is_out_stage r.stage) kept ≤ room
-  pub capacity_is : length kept + 2 * count_by (λ r. is_out_stage r.stage) kept ≤ capacity
-  pub outs : count_by (λ r. is_out_stage r.stage) kept ≤ taken
-  pub size : length kept + 2 * count_by (λ r. is_out_stage r.stage) kept ≤ 2 * taken + 1
+  pub room_is : count_by (λ r. is_out r.stage) kept ≤ room
+  pub capacity_is : length kept + 2 * count_by (λ r. is_out r.stage) kept ≤ capacity
+  pub outs : count_by (λ r. is_out r.stage) kept ≤ taken
+  pub size : length kept + 2 * count_by (λ r. is_out r.stage) kept ≤ 2 * taken + 1
   pub budget : taken ≤ s.nodes
   pub gap_some : pos 0 ≤ℤ s.gap
   pub gap_few : s.gap ≤ℤ LARGEST_GAP
-  pub few : s.nodes ≤ 100000
+  pub few : s.nodes ≤ MOST_NODES
 
 -- the point that an entry found
 abbrev pub found_in : Option Entry → Option (List ℤ)
@@ -168,7 +176,7 @@ place_with p best found before now = if improves p best found then now else befo
 
 -- the node is out, or it waits and may have a better point
 abbrev pub lives : Option ℤ → Record → Bool
-lives cutoff r = is_out_stage r.stage || waits cutoff r
+lives cutoff r = is_out r.stage || waits cutoff r
 
 -- the low numbers of the live nodes
 abbrev pub live_lows : Option ℤ → List Record → List ℤ
@@ -207,16 +215,10 @@ abbrev pub is_held : List Record → Option ℕ → Bool
 is_held records None = false
 is_held records (Some c) = holds_if (slice_get records c) || holds_if (slice_get records (c + 1))
 
-abbrev pub is_over_stage : Stage → Bool → Bool
-is_over_stage Waiting open_node = not open_node
-is_over_stage (Out seat) open_node = false
-is_over_stage Parted open_node = true
-is_over_stage Closed open_node = true
-is_over_stage Gone open_node = false
-
 -- the record's node may be freed
 abbrev pub may_go : Option ℤ → List Record → Record → Bool
-may_go cutoff records r = is_over_stage r.stage (r.has_point && is_below r.low cutoff) && not (is_held records r.children)
+may_go cutoff records r = is_over r.stage (r.has_point && is_below r.low cutoff)
+    && not (is_held records r.children)
 
 abbrev pub may_go_if : Option ℤ → List Record → Option Record → Bool
 may_go_if cutoff records None = false
@@ -236,7 +238,7 @@ stored_at records id piece = stored_if records id piece (slice_get records id)
 
 -- the record of a freed node
 abbrev pub gone_record : Record → Record
-gone_record r = record r { stage = Gone; piece = None }
+gone_record r = record r { stage = freed; piece = None }
 
 abbrev pub gone_if : List Record → ℕ → Option Record → List Record
 gone_if records id None = records
@@ -257,19 +259,25 @@ parent_if (Some r) = r.parent
 abbrev pub next_up : Option ℤ → List Record → ℕ → Option ℕ
 next_up cutoff records id = if_may_go cutoff records (parent_if (slice_get records id))
 
--- the records after a node is freed and then those of the list, each the parent of the one before and free to go; the last one is known
+-- the records after a node is freed and then those of the list, each the parent of the one
+-- before and free to go; the last one is known
 abbrev pub IsFreedTo : Option ℤ → List Record → ℕ → List ℕ → ℕ → List Record → Type 0
 IsFreedTo cutoff records id [] last after = (id ≡ last) × (after ≡ gone_at records id)
-IsFreedTo cutoff records id (q ∷ ids) last after = (next_up cutoff (gone_at records id) id ≡ Some q) × IsFreedTo cutoff (gone_at records id) q ids last after
+IsFreedTo cutoff records id (q ∷ ids) last after =
+    (next_up cutoff (gone_at records id) id ≡ Some q) × IsFreedTo cutoff (gone_at records id) q
+    ids last after
 
--- the nodes of the list are freed so far: the first one, and then parents in turn up to the last one
-pub record IsFreeingUp (cutoff : Option ℤ) (records : List Record) (id : ℕ) (ids : List ℕ) (last : ℕ) (after : List Record) : Type 0 where
+-- the nodes of the list are freed so far: the first one, and then parents in turn up to the last
+-- one
+pub record IsFreeingUp (cutoff : Option ℤ) (records : List Record) (id : ℕ) (ids : List ℕ)
+    (last : ℕ) (after : List Record) : Type 0 where
   pub others : List ℕ
   pub chain : ids ≡ id ∷ others
   pub freed : IsFreedTo cutoff records id others last after
 
 -- a node is freed, and then each parent in turn as long as it may be
-pub record IsFreedUp (cutoff : Option ℤ) (records : List Record) (id : ℕ) (ids : List ℕ) (after : List Record) : Type 0 where
+pub record IsFreedUp (cutoff : Option ℤ) (records : List Record) (id : ℕ) (ids : List ℕ)
+    (after : List Record) : Type 0 where
   pub last : ℕ
   pub freeing : IsFreeingUp cutoff records id ids last after
   pub top : next_up cutoff after last ≡ None
@@ -284,7 +292,8 @@ IsLinked records id None depth = Unit {0}
 IsLinked records id (Some q) depth = (q < id) × (depth_if (slice_get records q) + 1 ≡ depth)
 
 abbrev pub AreLinked : List Record → Type 0
-AreLinked records = (id : ℕ) → id < length records → IsLinked records id (parent_if (slice_get records id)) (depth_if (slice_get records id))
+AreLinked records = (id : ℕ) → id < length records
+    → IsLinked records id (parent_if (slice_get records id)) (depth_if (slice_get records id))
 
 -- a candidate's key: candidates come by their numbers alone
 abbrev pub candidate_key : ℕ → Key
@@ -299,7 +308,8 @@ pub record AreCandidates (pool : PoolView) : Type 0 where
   pub best : pool.order ≡ Best
   pub plain : (id : ℕ) (k : Key) → key_in pool id ≡ Some k → k ≡ candidate_key id
 
--- a node that may be freed is one of the candidates; or it waits, and the best value fell since all nodes were looked at
+-- a node that may be freed is one of the candidates; or it waits, and the best value fell since
+-- all nodes were looked at
 abbrev pub IsCandidate : (ℕ → Bool) → Bool → List Entry → ℕ → Type 0
 IsCandidate listed fell past id = (listed id || (fell && is_waiting (state_of past id))) ≡ true
 
@@ -313,9 +323,10 @@ next_key k = record k { id = k.id + 1 }
 
 -- the node waits, and its box has a point
 abbrev pub may_wait : Record → Bool
-may_wait r = is_waiting_stage r.stage && r.has_point
+may_wait r = is_waiting r.stage && r.has_point
 
--- a node's record, and its key among those of the waiting nodes: each live waiting node has its key, and each key is that of a waiting node whose box has a point
+-- a node's record, and its key among those of the waiting nodes: each live waiting node has its
+-- key, and each key is that of a waiting node whose box has a point
 abbrev pub IsQueued : Option ℤ → ℕ → Option Record → Option Key → Type 0
 IsQueued cutoff id None None = Unit {0}
 IsQueued cutoff id None (Some k) = ⊥
@@ -323,23 +334,12 @@ IsQueued cutoff id (Some r) None = waits cutoff r ≡ false
 IsQueued cutoff id (Some r) (Some k) = (may_wait r ≡ true) × (k ≡ record_key id r)
 
 -- the pool of the waiting nodes follows the records
-pub record AreQueued (order : Order) (cutoff : Option ℤ) (kept : List Record) (pool : PoolView) : Type 0 where
+pub record AreQueued (order : Order) (cutoff : Option ℤ) (kept : List Record) (pool : PoolView) :
+    Type 0 where
   pub same_order : pool.order ≡ order
   pub each : (id : ℕ) → IsQueued cutoff id (slice_get kept id) (key_in pool id)
 
 -- a key stays; or it goes, and its low number is not below the cutoff
 abbrev pub IsThinned : Option ℤ → Option Key → Option Key → Type 0
-IsThinned cutoff old new = (new ≡ old) ⊎ ((new ≡ None) × IfSome old (λ k. is_below k.low cutoff ≡ false))
-
--- what the tree keeps follows its history; the pools of the waiting nodes and of the candidates have room for a put or a back of each node that is out
-pub record IsTree (p : Program) (s : Settings) (entries : List Entry) (room capacity : ℕ) (kept : List Record) (waiting candidates : PoolView) (fell : Bool) (outs taken : ℕ) (best : Option ℤ) (place : ℕ) : Type 0 where
-  pub follows : IsKept p s (reverse entries) room capacity kept taken best
-  pub stands : StandsAt (best_of p (reverse entries)) entries place
-  pub queued : AreQueued s.order (cutoff_for p s (reverse entries)) kept waiting
-  pub waiting_room : 2 * outs ≤ waiting.room
-  pub waiting_below : length kept + 2 * outs ≤ length waiting.keys
-  pub outs_is : outs ≡ count_by (λ r. is_out_stage r.stage) kept
-  pub covered : (id : ℕ) → id < length (nodes_of p (reverse entries)) → is_freeable p s (reverse entries) id ≡ true → IsCandidate (is_listed candidates) fell (reverse entries) id
-  pub listed : AreCandidates candidates
-  pub candidate_room : 3 * outs ≤ candidates.room
-  pub candidate_below : length kept + 2 * outs ≤ length candidates.keys
+IsThinned cutoff old new = (new ≡ old)
+    ⊎ ((new ≡ None) × IfSome old (λ k. is_below k.low cutoff ≡ false))

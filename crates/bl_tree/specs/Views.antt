@@ -1,5 +1,6 @@
 -- What contracts see of a tree and of a lease, and what its calls do.
-use Rattle.std.specs.Prelude.{◌≡◌, ℕ, ◌-◌, ℤ, List, [], ◌∷◌, ◌++◌, length, map, reverse, Option, Some}
+use Rattle.std.specs.Prelude.{◌≡◌, ℕ, ◌-◌, ℤ, List, [], ◌∷◌, ◌++◌, length, map, reverse, Option}
+use Rattle.std.specs.Prelude.{Some}
 use Rattle.bl_problem.specs.Program.{Program}
 use Rattle.bl_problem.specs.declared.cut.Cut.{Cut}
 use Rattle.bl_desc.specs.declared.desc.Piece.{Piece}
@@ -13,7 +14,8 @@ use Rattle.bl_journal.specs.declared.outcome.Outcome.{Outcome}
 use Rattle.bl_journal.specs.declared.settings.Settings.{Settings}
 use Rattle.bl_journal.specs.Births.{nodes_of, node_at}
 use Rattle.bl_journal.specs.Descriptions.{full_of}
-use Rattle.bl_journal.specs.States.{out, state_of, cutoff_of}
+use Rattle.bl_journal.specs.States.{state_of, cutoff_of}
+use Rattle.bl_journal.specs.declared.state.State.TheVariants.{Out as out}
 use Rattle.bl_journal.specs.Pieces.{stored_of, rebuilt}
 use Rattle.bl_journal.specs.Legality.{IsLegal, MayPut}
 pub use Rattle.bl_journal.specs.Legality.{step_of}
@@ -60,10 +62,12 @@ abbrev pub PiecesStored : TreeView → Next → Type 0
 PiecesStored t ShutNext = Unit {0}
 PiecesStored t (SplitNext common column at left right) =
     let n = length (nodes_of t.problem (past_of t)) in
-    (left ≡ stored_of t.problem t.settings (past_of t) (n - 2)) × (right ≡ stored_of t.problem t.settings (past_of t) (n - 1))
+    (left ≡ stored_of t.problem t.settings (past_of t) (n - 2))
+    × (right ≡ stored_of t.problem t.settings (past_of t) (n - 1))
 
 -- the outcome may be put for the lease
 pub record IsPutFor (t : TreeView) (seat : ℕ) (lease : LeaseView) (outcome : Outcome) : Type 0 where
   pub leased : IsLeaseOf t seat lease
-  pub allowed : MayPut t.problem t.settings (past_of t) seat lease.id outcome.found outcome.low (step_of outcome.next)
+  pub allowed : MayPut t.problem t.settings (past_of t) seat lease.id outcome.found outcome.low
+      (step_of outcome.next)
   pub pieces : PiecesStored (extended t (put_entry seat lease.id outcome)) outcome.next

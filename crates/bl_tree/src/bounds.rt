@@ -21,7 +21,8 @@ fn overwrite(list: &mut Items<i64>, values: &[i64])
     }
 }
 
-/// Writes the bounds of the description that a chain stands for over two lists of as many entries. Takes no memory.
+/// Writes the bounds of the description that a chain stands for over two lists of as many
+/// entries. Takes no memory.
 pub fn write_bounds(chain: &Chain<Cut>, lows: &mut Items<i64>, highs: &mut Items<i64>)
     requires chain { IsApplicable chain.now }
     requires lows { length lows.old ≡ length chain.now.top.lows }
@@ -41,7 +42,8 @@ pub fn write_bounds(chain: &Chain<Cut>, lows: &mut Items<i64>, highs: &mut Items
     }
 }
 
-/// Whether the boxes of the two children have a point, where a node with these bounds is split after a change. Bounds are written over. Takes no memory.
+/// Whether the boxes of the two children have a point, where a node with these bounds is split
+/// after a change. Bounds are written over. Takes no memory.
 pub fn have_points(
     lows: &mut Items<i64>,
     highs: &mut Items<i64>,
@@ -54,8 +56,11 @@ pub fn have_points(
     requires low { column < length lows.old }
     requires high { column < length highs.old }
     requires below { at <ℤ slice_index_or (written common.now.highs highs.old) column (pos 0) }
-    ensures left { result.0 ≡ box_has_point (written common.now.lows lows.old) (slice_set (written common.now.highs highs.old) column at) }
-    ensures right { result.1 ≡ box_has_point (slice_set (written common.now.lows lows.old) column (at +ℤ pos 1)) (written common.now.highs highs.old) }
+    ensures left { result.0 ≡ box_has_point (written common.now.lows lows.old)
+        (slice_set (written common.now.highs highs.old) column at) }
+    ensures right { result.1 ≡ box_has_point
+        (slice_set (written common.now.lows lows.old) column (at +ℤ pos 1))
+        (written common.now.highs highs.old) }
     ensures lows { length lows.new ≡ length lows.old }
     ensures highs { length highs.new ≡ length highs.old }
 {

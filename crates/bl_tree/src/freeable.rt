@@ -1,5 +1,6 @@
 //! The pool of the candidates: the nodes that may have become free to go.
-ghost use Rattle.std.specs.Prelude.{◌≡◌, ◌<◌, ◌≤◌, ◌+◌, ◌*◌, ◌^◌, ℕ, true, false, Some, None, length, IfSome, OnOk};
+ghost use Rattle.std.specs.Prelude.{◌≡◌, ◌<◌, ◌≤◌, ◌+◌, ◌*◌, ◌^◌, ℕ, true, false, Some, None};
+ghost use Rattle.std.specs.Prelude.{length, IfSome, OnOk};
 ghost use Rattle.bl_pool.specs.Views.{key_in};
 ghost use Rattle.bl_tree.specs.Records.{AreCandidates, is_listed, may_go_at};
 
@@ -68,7 +69,8 @@ fn add_all(pool: &mut Pool, records: &[Record], cutoff: Option<i128>)
     requires room { length records.now ≤ pool.old.room }
     requires below { length records.now ≤ length pool.old.keys }
     ensures plain { AreCandidates pool.new }
-    ensures all { (q : ℕ) → q < length records.now → may_go_at cutoff records.now q ≡ true → is_listed pool.new q ≡ true }
+    ensures all { (q : ℕ) → q < length records.now → may_go_at cutoff records.now q ≡ true
+        → is_listed pool.new q ≡ true }
     ensures others { (q : ℕ) → is_listed pool.old q ≡ true → is_listed pool.new q ≡ true }
     ensures room { pool.old.room ≤ pool.new.room + length records.now }
     ensures below { length pool.new.keys ≡ length pool.old.keys }
@@ -94,7 +96,8 @@ pub fn refresh(
     requires room { room ≤ pool.old.room }
     requires below { length records.now ≤ length pool.old.keys }
     ensures plain { AreCandidates pool.new }
-    ensures all { OnOk result (fell ≡ true → (q : ℕ) → q < length records.now → may_go_at cutoff records.now q ≡ true → is_listed pool.new q ≡ true) }
+    ensures all { OnOk result (fell ≡ true → (q : ℕ) → q < length records.now
+        → may_go_at cutoff records.now q ≡ true → is_listed pool.new q ≡ true) }
     ensures others { (q : ℕ) → is_listed pool.old q ≡ true → is_listed pool.new q ≡ true }
     ensures room { room ≤ pool.new.room }
     ensures below { length pool.old.keys ≤ length pool.new.keys }
@@ -114,7 +117,8 @@ pub fn first_to_go(pool: &mut Pool, records: &[Record], cutoff: Option<i128>) ->
     ensures goes { IfSome result (λ id. may_go_at cutoff records.now id ≡ true) }
     ensures least { IfSome result (λ id. (q : ℕ) → is_listed pool.new q ≡ true → id ≤ q) }
     ensures none { result ≡ None → (q : ℕ) → is_listed pool.new q ≡ false }
-    ensures kept { (q : ℕ) → is_listed pool.old q ≡ true → may_go_at cutoff records.now q ≡ true → is_listed pool.new q ≡ true }
+    ensures kept { (q : ℕ) → is_listed pool.old q ≡ true → may_go_at cutoff records.now q ≡ true
+        → is_listed pool.new q ≡ true }
     ensures room { pool.old.room ≤ pool.new.room }
     ensures below { length pool.new.keys ≡ length pool.old.keys }
 {

@@ -3,45 +3,14 @@ ghost use Rattle.std.specs.Prelude.{◌≡◌, IfSome, slice_get};
 ghost use Rattle.bl_problem.specs.Points.{InBox, own_lows, own_highs, value_of};
 ghost use Rattle.bl_journal.specs.Results.{lesser_of, final};
 ghost use Rattle.bl_journal.specs.States.{value_less};
-ghost use Rattle.bl_tree.specs.Records.{best_value_with, improves, place_with, found_in, found_with};
+ghost use Rattle.bl_tree.specs.Records.{best_value_with, improves, place_with, found_in};
+ghost use Rattle.bl_tree.specs.Records.{found_with};
 ghost use Rattle.bl_tree.specs.Answers.{found_if, verdict_of, verdict_from};
 
 use crate::answer::{Answer, Best};
 use bl_journal::Entry;
 use bl_mods::Items;
 use bl_problem::Problem;
-
-/// Whether a found point is better than the best one.
-pub fn is_better(problem: &Problem, best: Option<i128>, found: &Option<Items<i64>>) -> bool
-    requires { IfSome found.now (λ x. InBox (own_lows problem.now) (own_highs problem.now) x) }
-    ensures { result ≡ improves problem.now best found.now }
-{
-    match found {
-        None => false,
-        Some(point) => match best {
-            None => true,
-            Some(value) => value_within(problem, point.as_slice()) < value,
-        },
-    }
-}
-
-/// Where the entry stands that found the best point, after a put at the place `now`.
-pub fn place_after(
-    problem: &Problem,
-    best: Option<i128>,
-    found: &Option<Items<i64>>,
-    before: usize,
-    now: usize,
-) -> usize
-    requires { IfSome found.now (λ x. InBox (own_lows problem.now) (own_highs problem.now) x) }
-    ensures { result ≡ place_with problem.now best found.now before now }
-{
-    if is_better(problem, best, found) {
-        now
-    } else {
-        before
-    }
-}
 
 // The value of a point within the problem's bounds.
 fn value_within(problem: &Problem, point: &[i64]) -> i128
@@ -52,20 +21,46 @@ fn value_within(problem: &Problem, point: &[i64]) -> i128
     problem.value(point)
 }
 
-/// The best value after a point was found, or none was.
-pub fn best_after(problem: &Problem, best: Option<i128>, found: &Option<Items<i64>>) -> Option<i128>
+/// What is best once an outcome came: the best value, the place of the entry that found it, and
+/// whether the outcome's point is it.
+#[derive(Clone, Copy)]
+pub struct Improved {
+    pub value: Option<i128>,
+    pub place: usize,
+    pub better: bool,
+}
+
+/// What is best after a put at the place `now`, where the best value and the place of its entry are
+/// known. The found point's value is worked out once.
+pub fn improve(
+    problem: &Problem,
+    best: Option<i128>,
+    before: usize,
+    found: &Option<Items<i64>>,
+    now: usize,
+) -> Improved
     requires { IfSome found.now (λ x. InBox (own_lows problem.now) (own_highs problem.now) x) }
-    ensures { result ≡ best_value_with problem.now best found.now }
+    ensures value { result.value ≡ best_value_with problem.now best found.now }
+    ensures place { result.place ≡ place_with problem.now best found.now before now }
+    ensures better { result.better ≡ improves problem.now best found.now }
 {
-    match found {
-        None => best,
-        Some(point) => {
-            let value = value_within(problem, point.as_slice());
-            match best {
-                None => Some(value),
-                Some(old) => { if value < old { Some(value) } else { Some(old) } }
-            }
-        }
+    let same = Improved {
+        value: best,
+        place: before,
+        better: false,
+    };
+    let Some(point) = found else {
+        return same;
+    };
+    let value = value_within(problem, point.as_slice());
+    let new = Improved {
+        value: Some(value),
+        place: now,
+        better: true,
+    };
+    match best {
+        None => new,
+        Some(old) => { if value < old { new } else { same } }
     }
 }
 
@@ -117,7 +112,8 @@ fn final_answer(best: Option<Best<'_>>, gap: i128, cutoff: Option<i128>) -> Answ
     }
 }
 
-/// The answer, from the best point, the gap, the best value less the gap, and the least low number of the live nodes.
+/// The answer, from the best point, the gap, the best value less the gap, and the least low
+/// number of the live nodes.
 pub fn answer_from(
     best: Option<Best<'_>>,
     gap: i128,

@@ -1,4 +1,5 @@
-//! Laws over trees: each is what a function with nothing to do ensures, in the words of `specs/Jobs.antt`.
+//! Laws over trees: each is what a function with nothing to do ensures, in the words of
+//! `specs/Jobs.antt`.
 ghost use Rattle.bl_tree.specs.Jobs.{PlansStay, JobsStay, PlansMakeJobs};
 
 /// A plan of a tree stays a plan of it, whatever is entered later.

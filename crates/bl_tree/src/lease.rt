@@ -10,13 +10,15 @@ use bl_problem::Cut;
 use bl_rebuild::Chain;
 use std::marker::Model;
 
-/// The right and the duty to work on a node: it must be spent, by a put or a back. Contracts see the node's number, depth and low number, the best value when it was taken less the gap, and the chain of pieces that stands for its description.
+/// The right and the duty to work on a node: it must be spent, by a put or a back. A take alone
+/// makes one. Contracts see the node's number, depth and low number, the best value when it was
+/// taken less the gap, and the chain of pieces that stands for its description.
 pub struct Lease {
-    pub id: u32,
-    pub depth: u32,
-    pub low: i128,
-    pub cutoff: Option<i128>,
-    pub chain: Chain<Cut>,
+    pub(crate) id: u32,
+    pub(crate) depth: u32,
+    pub(crate) low: i128,
+    pub(crate) cutoff: Option<i128>,
+    pub(crate) chain: Chain<Cut>,
 }
 
 impl Model for Lease {
@@ -25,7 +27,14 @@ impl Model for Lease {
 
     ghost Value = { LeaseView };
 
-    ghost view = { λ l. record { id = l.id; depth = l.depth; low = l.low; cutoff = l.cutoff; chain = pieces_of l.chain } };
+    ghost view = { λ l.
+        record {
+          id = l.id;
+          depth = l.depth;
+          low = l.low;
+          cutoff = l.cutoff;
+          chain = pieces_of l.chain;
+        } };
 
     ghost invariant = { λ l. IsApplicable l.chain };
 }
@@ -52,19 +61,22 @@ impl Lease {
         self.low
     }
 
-    /// The best value when the node was taken less the gap, if a point had been found, in units of 10^-scale.
+    /// The best value when the node was taken less the gap, if a point had been found, in units
+    /// of 10^-scale.
     pub fn cutoff(&self) -> Option<i128>
         ensures { result ≡ self.now.cutoff }
     {
         self.cutoff
     }
 
-    /// The tree's own pieces, shared, that stand for the node's description. `rebuild` makes it of them.
+    /// The tree's own pieces, shared, that stand for the node's description. `rebuild` makes it
+    /// of them.
     pub fn chain(&self) -> &Chain<Cut>
         ensures pieces { pieces_of result.now ≡ self.now.chain }
         ensures whole { IsWhole result.now.top }
         ensures fits { FitInOrder result.now.changes result.now.top }
-        ensures gives { rebuilt self.now.chain ≡ Some (described result.now.changes result.now.top) }
+        ensures gives { rebuilt self.now.chain
+            ≡ Some (described result.now.changes result.now.top) }
     {
         &self.chain
     }

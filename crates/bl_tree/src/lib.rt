@@ -1,4 +1,5 @@
-//! The search tree as a machine with a journal: what its calls answer is told by its history alone.
+//! Search: the search tree as a machine with a journal: what its calls answer is told by its
+//! history alone.
 #![tactic(auto)]
 
 mod answer;
@@ -8,6 +9,7 @@ mod freeing;
 mod incumbent;
 pub mod laws;
 mod lease;
+mod nodes;
 mod numbers;
 mod plan;
 mod queue;
@@ -18,7 +20,7 @@ mod search;
 mod tree;
 mod workspace;
 
-pub use answer::{Answer, Best, Born, Freed, Glance};
+pub use answer::{Answer, Best, Born, Freed, FreedNodes, Glance};
 pub use lease::{Lease, Taken};
-pub use plan::{Installed, Job, Plan, Planned, encode};
+pub use plan::{Installed, Job, Plan, Planned, SpentJob, encode};
 pub use tree::Tree;

@@ -38,7 +38,41 @@ pub enum Installed {
     Made,
 }
 
-/// What an install answers for a node that stands so to the job's form, which the span does not exclude.
+/// What an install answers, and the piece that it leaves over: what was stored of the node
+/// before, or the job's own where that isn't stored. Contracts see the answer. The piece goes
+/// with the value: let it go where nobody waits.
+#[derive(Drop)]
+pub struct SpentJob {
+    installed: Installed,
+    piece: Option<Piece<Cut>>,
+}
+
+impl Model for SpentJob {
+    ghost use Rattle.bl_tree.specs.declared.plan.Installed.{Installed as Answered};
+
+    ghost Value = { Answered };
+
+    ghost view = { λ s. s.installed };
+}
+
+impl SpentJob {
+    /// What the install answers.
+    pub fn installed(&self) -> Installed
+        ensures { result ≡ self.now }
+    {
+        self.installed
+    }
+}
+
+/// The answer of an install that leaves this piece over.
+pub fn spent_job(installed: Installed, piece: Option<Piece<Cut>>) -> SpentJob
+    ensures { result ≡ installed }
+{
+    SpentJob { installed, piece }
+}
+
+/// What an install answers for a node that stands so to the job's form, which the span does not
+/// exclude.
 pub fn installed_as(encoding: Encoding) -> Installed
     ensures { result ≡ installed_as encoding }
 {
@@ -49,13 +83,15 @@ pub fn installed_as(encoding: Encoding) -> Installed
     }
 }
 
-/// A node that is to be stored in another form, with the tree's own pieces, shared, that stand for it, and where the form is relative those that stand for its parent. It keeps its meaning whatever happens to the tree.
+/// A node that is to be stored in another form, with the tree's own pieces, shared, that stand
+/// for it, and where the form is relative those that stand for its parent. It keeps its meaning
+/// whatever happens to the tree.
 #[derive(Drop)]
 pub struct Plan {
-    pub id: u32,
-    pub chain: Chain<Cut>,
+    pub(crate) id: u32,
+    pub(crate) chain: Chain<Cut>,
     // The parent's, where the form is relative.
-    pub above: Option<Chain<Cut>>,
+    pub(crate) above: Option<Chain<Cut>>,
 }
 
 impl Model for Plan {
@@ -66,9 +102,16 @@ impl Model for Plan {
 
     ghost Value = { PlanView };
 
-    ghost view = { λ p. record { id = p.id; form = form_below p.above; chain = pieces_of p.chain; above = pieces_if p.above } };
+    ghost view = { λ p. record {
+      id = p.id;
+      form = form_below p.above;
+      chain =
+          pieces_of p.chain;
+      above = pieces_if p.above;
+    } };
 
-    ghost invariant = { λ p. IsApplicable p.chain × IfSome p.above (λ above. IsChainAbove above (described_by p.chain)) };
+    ghost invariant = { λ p. IsApplicable p.chain
+        × IfSome p.above (λ above. IsChainAbove above (described_by p.chain)) };
 }
 
 impl Plan {
@@ -93,9 +136,9 @@ impl Plan {
 /// A node, a form, and the node's piece in that form, which may be installed.
 #[derive(Drop)]
 pub struct Job {
-    pub id: u32,
-    pub form: Form,
-    pub piece: Piece<Cut>,
+    pub(crate) id: u32,
+    pub(crate) form: Form,
+    pub(crate) piece: Piece<Cut>,
 }
 
 impl Model for Job {
@@ -136,14 +179,16 @@ fn relative_piece(
     desc: &Desc<Cut>,
 ) -> Result<Piece<Cut>, AllocError>
     requires { IsChainAbove above.now desc.now }
-    ensures { IfOk result (λ piece. piece ≡ Relative (difference (λ c. c.id) (described_by above.now) desc.now)) }
+    ensures { IfOk result (λ piece. piece
+        ≡ Relative (difference (λ c. c.id) (described_by above.now) desc.now)) }
 {
     let parent = rebuild(above)?;
     let change = between(alloc, &parent, desc)?;
     Ok(Piece::Relative(Shared::new(alloc, change)?))
 }
 
-/// Makes the piece of a plan, without the tree: the description that its chain stands for, or the canonical difference from that of the parent. `AllocError` where there is no memory.
+/// Makes the piece of a plan, without the tree: the description that its chain stands for, or
+/// the canonical difference from that of the parent. `AllocError` where there is no memory.
 pub fn encode(alloc: Global, plan: &Plan) -> Result<Job, AllocError>
     ensures { IfOk result (λ job. IsMadeOf plan.now job) }
 {

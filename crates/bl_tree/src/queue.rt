@@ -1,5 +1,6 @@
 //! The pool of the waiting nodes.
-ghost use Rattle.std.specs.Prelude.{◌≡◌, ◌<◌, ◌≤◌, ◌+◌, ◌^◌, ℕ, true, false, Some, None, length, IfSome, if◌then◌else◌, ◌==◌};
+ghost use Rattle.std.specs.Prelude.{◌≡◌, ◌<◌, ◌≤◌, ◌+◌, ◌^◌, ℕ, true, false, Some, None, length};
+ghost use Rattle.std.specs.Prelude.{IfSome, if◌then◌else◌, ◌==◌};
 ghost use Rattle.bl_pool.specs.declared.key.Key.{Key};
 ghost use Rattle.bl_pool.specs.declared.key.Order.TheVariants.{Best};
 ghost use Rattle.bl_pool.specs.Views.{IsFirst, key_in};
@@ -56,8 +57,10 @@ pub fn join_children(pool: &mut Pool, left: Key, left_open: bool, right_open: bo
     requires next { key_in pool.old (left.id + 1) ≡ None }
     ensures order { pool.new.order ≡ pool.old.order }
     ensures left { key_in pool.new left.id ≡ (if left_open then Some left else None) }
-    ensures right { key_in pool.new (left.id + 1) ≡ (if right_open then Some (next_key left) else None) }
-    ensures others { (id : ℕ) → (id ≡ left.id → ⊥) → (id ≡ left.id + 1 → ⊥) → key_in pool.new id ≡ key_in pool.old id }
+    ensures right { key_in pool.new (left.id + 1)
+        ≡ (if right_open then Some (next_key left) else None) }
+    ensures others { (id : ℕ) → (id ≡ left.id → ⊥) → (id ≡ left.id + 1 → ⊥) → key_in pool.new id
+        ≡ key_in pool.old id }
     ensures room { pool.old.room ≤ pool.new.room + 2 }
     ensures below { length pool.new.keys ≡ length pool.old.keys }
 {
@@ -73,7 +76,8 @@ pub fn join_children(pool: &mut Pool, left: Key, left_open: bool, right_open: bo
 /// Takes a node's key out, if it is there. Takes no memory.
 pub fn leave(pool: &mut Pool, id: u32)
     ensures order { pool.new.order ≡ pool.old.order }
-    ensures keys { (other : ℕ) → key_in pool.new other ≡ (if other == id then None else key_in pool.old other) }
+    ensures keys { (other : ℕ) → key_in pool.new other
+        ≡ (if other == id then None else key_in pool.old other) }
     ensures room { pool.old.room ≤ pool.new.room }
     ensures below { length pool.new.keys ≡ length pool.old.keys }
 {
@@ -103,7 +107,8 @@ pub fn first_open(pool: &mut Pool, cutoff: Option<i128>) -> Option<Key>
 /// first one is not.
 pub fn first_if_open(pool: &Pool, cutoff: Option<i128>) -> Option<Key>
     ensures some { IfSome result (λ k. IsFirst pool.now k × (is_below k.low cutoff ≡ true)) }
-    ensures none { result ≡ None → pool.now.order ≡ Best → (id : ℕ) (k : Key) → key_in pool.now id ≡ Some k → is_below k.low cutoff ≡ false }
+    ensures none { result ≡ None → pool.now.order ≡ Best → (id : ℕ) (k : Key) → key_in pool.now id
+        ≡ Some k → is_below k.low cutoff ≡ false }
 {
     let key = pool.first()?;
     if is_below(key.low, cutoff) {

@@ -4,48 +4,40 @@ ghost use Rattle.bl_desc.specs.Weights.{HasShortLists};
 ghost use Rattle.bl_tree.specs.Records.{is_relative, weight_if, fresh_record};
 
 use bl_desc::{Piece, weight};
+use bl_journal::State;
 use bl_problem::Cut;
 
-/// Where a node stands.
-#[derive(Clone, Copy, PartialEq, Eq)]
-pub enum Stage {
-    Waiting,
-    /// With this seat.
-    Out(u32),
-    Parted,
-    Closed,
-    Gone,
-}
-
-/// A node: its parent and the first of its children, its depth and low number, where it stands, whether its box has a point, and how it is stored, unless it is freed.
+/// A node: its parent and the first of its children, its depth and low number, where it stands,
+/// whether its box has a point, and how it is stored, unless it is freed.
 #[derive(Drop)]
 pub struct Record {
+    pub low: i128,
+    pub piece: Option<Piece<Cut>>,
     pub parent: Option<u32>,
     pub children: Option<u32>,
+    pub stage: State,
     pub depth: u32,
-    pub low: i128,
-    pub stage: Stage,
     pub has_point: bool,
-    pub piece: Option<Piece<Cut>>,
 }
 
 impl Record {
-    ghost use Rattle.bl_tree.specs.Records.{waits, is_waiting_stage, is_out_stage};
+    ghost use Rattle.bl_journal.specs.Replies.{is_waiting, is_out};
+    ghost use Rattle.bl_tree.specs.Records.{waits};
 
     fn is_waiting(&self) -> bool
-        ensures { result ≡ is_waiting_stage self.now.stage }
+        ensures { result ≡ is_waiting self.now.stage }
     {
         match self.stage {
-            Stage::Waiting => true,
+            State::Waiting => true,
             _ => false,
         }
     }
 
     pub fn is_out(&self) -> bool
-        ensures { result ≡ is_out_stage self.now.stage }
+        ensures { result ≡ is_out self.now.stage }
     {
         match self.stage {
-            Stage::Out(_) => true,
+            State::Out { .. } => true,
             _ => false,
         }
     }
@@ -59,7 +51,8 @@ impl Record {
 }
 
 impl Record {
-    ghost use Rattle.bl_tree.specs.Records.{lives, is_over_stage, stage_state};
+    ghost use Rattle.bl_journal.specs.Freeing.{is_over};
+    ghost use Rattle.bl_tree.specs.Records.{lives};
     ghost use Rattle.bl_journal.specs.States.{is_below};
     ghost use Rattle.bl_journal.specs.Pieces.{is_freed};
     ghost use Rattle.std.specs.Prelude.{◌&&◌};
@@ -84,14 +77,15 @@ impl Record {
 
     /// Whether the node is split, shut, or waiting and not live.
     pub fn is_over(&self, cutoff: Option<i128>) -> bool
-        ensures { result ≡ is_over_stage self.now.stage (self.now.has_point && is_below self.now.low cutoff) }
+        ensures { result ≡ is_over self.now.stage
+            (self.now.has_point && is_below self.now.low cutoff) }
     {
         match self.stage {
-            Stage::Parted => true,
-            Stage::Closed => true,
-            Stage::Waiting => !self.is_open(cutoff),
-            Stage::Out(_) => false,
-            Stage::Gone => false,
+            State::Split => true,
+            State::Shut => true,
+            State::Waiting => !self.is_open(cutoff),
+            State::Out { .. } => false,
+            State::Freed => false,
         }
     }
 
@@ -107,10 +101,10 @@ impl Record {
 
     /// Whether the node is freed.
     pub fn is_gone(&self) -> bool
-        ensures { result ≡ is_freed (stage_state self.now.stage) }
+        ensures { result ≡ is_freed self.now.stage }
     {
         match self.stage {
-            Stage::Gone => true,
+            State::Freed => true,
             _ => false,
         }
     }
@@ -137,7 +131,7 @@ pub fn new_record(parent: u32, depth: u32, low: i128, has_point: bool, piece: Pi
         children: None,
         depth,
         low,
-        stage: Stage::Waiting,
+        stage: State::Waiting,
         has_point,
         piece: Some(piece),
     }

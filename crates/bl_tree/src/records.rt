@@ -1,5 +1,6 @@
 //! Changes of plain lists of records.
-ghost use Rattle.std.specs.Prelude.{◌≡◌, ◌<◌, ◌≤◌, ◌+◌, ◌*◌, ◌^◌, ℕ, length, vec_capacity, slice_get, OnOk};
+ghost use Rattle.std.specs.Prelude.{◌≡◌, ◌<◌, ◌≤◌, ◌+◌, ◌*◌, ◌^◌, ℕ, length, vec_capacity};
+ghost use Rattle.std.specs.Prelude.{slice_get, OnOk};
 ghost use Rattle.bl_tree.specs.Records.{stored_at, parent_if};
 ghost use Rattle.bl_pool.specs.Views.{key_in};
 
@@ -9,7 +10,8 @@ use bl_pool::Pool;
 use bl_problem::Cut;
 use std::alloc::AllocError;
 
-/// Makes the spare room that so many leases need in the list and the pools of a tree. What stands in them stays.
+/// Makes the spare room that so many leases need in the list and the pools of a tree. What
+/// stands in them stays.
 pub fn make_room(
     records: &mut Vec<Record>,
     waiting: &mut Pool,
@@ -27,11 +29,14 @@ pub fn make_room(
     ensures waiting_below { length waiting.old.keys ≤ length waiting.new.keys }
     ensures candidate_room { candidates.old.room ≤ candidates.new.room }
     ensures candidate_below { length candidates.old.keys ≤ length candidates.new.keys }
-    ensures more_records { OnOk result (length records.new.items + 2 * leases ≤ vec_capacity records.new) }
+    ensures more_records { OnOk result (length records.new.items + 2 * leases
+        ≤ vec_capacity records.new) }
     ensures more_waiting { OnOk result (2 * leases ≤ waiting.new.room) }
-    ensures more_below { OnOk result (length records.new.items + 2 * leases ≤ length waiting.new.keys) }
+    ensures more_below { OnOk result (length records.new.items + 2 * leases
+        ≤ length waiting.new.keys) }
     ensures more_candidates { OnOk result (3 * leases ≤ candidates.new.room) }
-    ensures more_candidates_below { OnOk result (length records.new.items + 2 * leases ≤ length candidates.new.keys) }
+    ensures more_candidates_below { OnOk result (length records.new.items + 2 * leases
+        ≤ length candidates.new.keys) }
 {
     records.reserve(2 * leases)?;
     let below = records.len() + 2 * leases;
@@ -40,14 +45,19 @@ pub fn make_room(
     Ok(())
 }
 
-/// Stores a node as this piece. What is given back is the node's parent.
-pub fn store(records: &mut Vec<Record>, id: usize, piece: Piece<Cut>) -> Option<u32>
+/// Stores a node as this piece. What is given back is the node's parent, and what was stored
+/// before.
+pub fn store(
+    records: &mut Vec<Record>,
+    id: usize,
+    piece: Piece<Cut>,
+) -> (Option<u32>, Option<Piece<Cut>>)
     requires { id < length records.old.items }
     ensures items { records.new.items ≡ stored_at records.old.items id piece }
     ensures capacity { vec_capacity records.new ≡ vec_capacity records.old }
-    ensures parent { result ≡ parent_if (slice_get records.old.items id) }
+    ensures parent { result.0 ≡ parent_if (slice_get records.old.items id) }
 {
     let record = &mut records[id];
-    record.piece = Some(piece);
-    record.parent
+    let before = record.piece.replace(piece);
+    (record.parent, before)
 }

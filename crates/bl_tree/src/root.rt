@@ -5,9 +5,10 @@ ghost use Rattle.bl_journal.specs.Descriptions.{root_desc};
 ghost use Rattle.bl_tree.specs.Records.{root_record};
 ghost use Rattle.bl_desc.specs.declared.desc.Status.TheVariants.{AtLow};
 
-use crate::record::{Record, Stage};
+use crate::record::Record;
 use crate::search::has_point;
 use bl_desc::{Desc, Piece, Status};
+use bl_journal::State;
 use bl_mods::{Items, Shared};
 use bl_problem::{Column, Cut, Problem};
 use std::alloc::{AllocError, Global};
@@ -71,7 +72,7 @@ pub fn root_record(low: i128, desc: Shared<Desc<Cut>>) -> Record
         children: None,
         depth: 0,
         low,
-        stage: Stage::Waiting,
+        stage: State::Waiting,
         has_point,
         piece: Some(Piece::Explicit(desc)),
     }

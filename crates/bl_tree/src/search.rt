@@ -1,5 +1,6 @@
 //! Searches over plain lists of records.
-ghost use Rattle.std.specs.Prelude.{◌≡◌, ◌≤◌, length, ◌^◌, slice_get, sum_by, option_copied, All, IfSome};
+ghost use Rattle.std.specs.Prelude.{◌≡◌, ◌≤◌, length, ◌^◌, slice_get, sum_by, option_copied, All};
+ghost use Rattle.std.specs.Prelude.{IfSome};
 ghost use Rattle.bl_tree.specs.Records.{least_with, least_if, live_lows, piece_if, weight_if};
 ghost use Rattle.bl_desc.specs.Weights.{HasShortLists};
 ghost use Rattle.bl_journal.specs.States.{has_point as box_has_point};

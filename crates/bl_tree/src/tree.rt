@@ -2,22 +2,23 @@
 ghost use Rattle.std.specs.Prelude.{◌≡◌, ◌<◌, ◌≤◌, ◌+◌, [], OnErr, IfOk, IfSome, option_copied};
 ghost use Rattle.bl_journal.specs.declared.entry.Entry.TheVariants.{Put};
 
-use crate::answer::{Answer, Best, Born, Encoding, Freed, Glance};
+use crate::answer::{Answer, Best, Born, Encoding, Freed, Glance, freed_nodes};
 use crate::freeable::{add, add_if, add_two, first_to_go, refresh};
 use crate::freeing::free_up;
-use crate::incumbent::{answer_from, best_after, found_at, is_better, place_after};
+use crate::incumbent::{Improved, answer_from, found_at, improve};
 use crate::lease::{Lease, Taken, number_of, parts_of};
+use crate::nodes::NodeStore;
 use crate::numbers::copy_into;
-use crate::plan::{Installed, Job, Plan, Planned, installed_as};
+use crate::plan::{Installed, Job, Plan, Planned, SpentJob, installed_as, spent_job};
 use crate::queue::{first_if_open, first_open, join_children, join_if, key_of, leave};
-use crate::record::{Record, Stage, new_record};
+use crate::record::{Record, new_record};
 use crate::records::{make_room, store};
 use crate::root::{describe_root, root_low, root_record};
 use crate::search::{least_live, piece_of, weight_of_all};
 use crate::workspace::Workspace;
 use bl_desc::{Form, Piece};
 use bl_journal::laws::descriptions_are_whole;
-use bl_journal::{Entry, Journal, Next, Order, Outcome, Settings, Step};
+use bl_journal::{Entry, Journal, Next, Order, Outcome, Settings, State, Step};
 use bl_mods::{Items, Shared};
 use bl_pool::{Key, Pool};
 use bl_problem::{Cut, Problem};
@@ -39,47 +40,44 @@ fn put_of(seat: u32, id: u32, found: Option<Items<i64>>, low: i128, next: Step) 
     }
 }
 
-/// The search tree over a plain list of its nodes. Contracts see its problem, its settings and its history.
+/// The search tree: its problem, its settings, its history, and what is kept of its nodes.
+/// Contracts see the first three.
 #[derive(Drop)]
 pub struct Tree {
     problem: Workspace,
     settings: Settings,
     journal: Journal,
-    records: Vec<Record>,
-    // The keys of the waiting nodes, but for some that aren't live any more.
-    waiting: Pool,
-    // Each node that may be freed is one of these; or it waits, and `fell` is set.
-    candidates: Pool,
-    // The best value fell since all nodes were looked at.
-    fell: bool,
-    // How many nodes are out.
-    outs: u32,
-    used: u32,
-    best: Option<i128>,
-    // The place in the journal of the entry that found the best point.
-    best_place: usize,
+    kept: NodeStore,
 }
 
 impl Model for Tree {
     ghost use Rattle.bl_tree.specs.Views.{TreeView};
-    ghost use Rattle.bl_tree.specs.Records.{IsTree};
-    ghost use Rattle.std.specs.Prelude.{vec_capacity};
 
     ghost Value = { TreeView };
 
-    ghost view = { λ t. record { problem = t.problem; settings = t.settings; history = t.journal.entries } };
+    ghost use Rattle.bl_tree.specs.Kept.{IsTree};
 
-    ghost invariant = { λ t. IsTree t.problem t.settings t.journal.entries t.journal.room (vec_capacity t.records) t.records.items t.waiting t.candidates t.fell t.outs t.used t.best t.best_place };
+    ghost view = { λ t. record {
+      problem = t.problem;
+      settings = t.settings;
+      history =
+          t.journal.entries;
+    } };
+
+    ghost invariant = { IsTree };
 }
 
 impl Tree {
     ghost use Rattle.bl_tree.specs.Views.{IsLegalTree, IsLeaseOf, IsPutFor, extended, put_entry};
-    ghost use Rattle.bl_tree.specs.Answers.{IsBorn, born_for, glance_for, stored_for, held_for, found_if, verdict_of, verdict_for, encoding_for, related_for, is_freed_if};
+    ghost use Rattle.bl_tree.specs.Answers.{IsBorn, born_for, glance_for, stored_for, held_for};
+    ghost use Rattle.bl_tree.specs.Answers.{found_if, verdict_of, verdict_for, encoding_for};
+    ghost use Rattle.bl_tree.specs.Answers.{related_for, is_freed_if};
     ghost use Rattle.bl_tree.specs.Views.{past_of};
     ghost use Rattle.bl_journal.specs.States.{best_of, cutoff_for};
     ghost use Rattle.bl_journal.specs.Results.{IsTrueFor, live_ids, lows_of};
     ghost use Rattle.bl_tree.specs.Records.{least_if};
-    ghost use Rattle.bl_journal.specs.declared.settings.TheConstants.{LARGEST_GAP};
+    ghost use Rattle.bl_journal.specs.declared.limits.TheConstants.{LARGEST_GAP, MOST_NODES};
+    ghost use Rattle.bl_journal.specs.declared.limits.TheConstants.{MOST_SPAN};
     ghost use Rattle.std.specs.Prelude.{pos, ◌≤ℤ◌, false, Some};
     ghost use Rattle.bl_tree.specs.Calls.{Takes, Frees, IsPlanFor, Plans, Installs};
     ghost use Rattle.bl_tree.specs.Jobs.{IsJobOf};
@@ -93,7 +91,8 @@ impl Tree {
     ghost use Rattle.bl_journal.specs.Freeing.{first_freeable};
     ghost use Rattle.bl_journal.specs.Replies.{next_of};
     ghost use Rattle.bl_journal.specs.Descriptions.{full_of};
-    ghost use Rattle.bl_journal.specs.States.{state_of, freed};
+    ghost use Rattle.bl_journal.specs.States.{state_of};
+    ghost use Rattle.bl_journal.specs.declared.state.State.TheVariants.{Freed as freed};
     ghost use Rattle.std.specs.Prelude.{◌≢◌};
     ghost use Rattle.bl_journal.specs.declared.entry.Entry.TheVariants.{Back};
 
@@ -108,11 +107,12 @@ impl Tree {
     /// The tree of a problem before anything happened: its root waits.
     pub fn new(alloc: Global, problem: Arc<Problem>, settings: Settings) -> Result<Tree, AllocError>
         requires span { 0 < settings.span }
-        requires short { settings.span ≤ 64 }
-        requires few { settings.nodes ≤ 100000 }
+        requires short { settings.span ≤ MOST_SPAN }
+        requires few { settings.nodes ≤ MOST_NODES }
         requires gap_some { pos 0 ≤ℤ settings.gap }
         requires gap_few { settings.gap ≤ℤ LARGEST_GAP }
-        ensures { IfOk result (λ tree. tree ≡ record { problem = problem.value; settings = settings; history = [] }) }
+        ensures { IfOk result (λ tree. tree
+            ≡ record { problem = problem.value; settings = settings; history = [] }) }
     {
         let problem = Workspace::new(alloc, problem)?;
         let desc = describe_root(alloc, problem.get())?;
@@ -130,14 +130,16 @@ impl Tree {
             problem,
             settings,
             journal: Journal::new(alloc),
-            records,
-            waiting,
-            candidates,
-            fell: false,
-            outs: 0,
-            used: 0,
-            best: None,
-            best_place: 0,
+            kept: NodeStore {
+                records,
+                waiting,
+                candidates,
+                fell: false,
+                outs: 0,
+                used: 0,
+                best: None,
+                best_place: 0,
+            },
         })
     }
 
@@ -153,7 +155,7 @@ impl Tree {
     pub fn stored(&self, id: u32) -> Option<&Piece<Cut>>
         ensures { option_copied result ≡ stored_for self.now id }
     {
-        piece_of(&self.records, id as usize)
+        piece_of(&self.kept.records, id as usize)
     }
 
     /// How many entries the stored pieces have.
@@ -161,15 +163,15 @@ impl Tree {
         ensures { result ≡ held_for self.now }
     {
         let _columns = self.problem.get().columns();
-        weight_of_all(&self.records)
+        weight_of_all(&self.kept.records)
     }
 
     // The best point that was found, if one was.
     fn incumbent(&self) -> Option<Best<'_>>
         ensures { found_if result ≡ best_of self.now.problem (past_of self.now) }
     {
-        let value = self.best?;
-        found_at(self.journal.entries(), self.best_place, value)
+        let value = self.kept.best?;
+        found_at(self.journal.entries(), self.kept.best_place, value)
     }
 
     // The best value less the gap, if a point was found.
@@ -177,24 +179,26 @@ impl Tree {
         ensures { result ≡ cutoff_for self.now.problem self.now.settings (past_of self.now) }
     {
         let _columns = self.problem.get().columns();
-        let value = self.best?;
+        let value = self.kept.best?;
         Some(value - self.settings.gap)
     }
 
     // The least low number of the live nodes. Where no node is out and the order is best first, the
     // pool's first key has it.
     fn least_low(&self) -> Option<i128>
-        ensures { result ≡ least_if (lows_of self.now.problem (past_of self.now) (live_ids self.now.problem self.now.settings (past_of self.now))) }
+        ensures { result ≡ least_if (lows_of self.now.problem (past_of self.now)
+            (live_ids self.now.problem self.now.settings (past_of self.now))) }
     {
         let cutoff = self.cutoff();
-        if self.outs == 0 && self.settings.order == Order::Best {
-            let key = first_if_open(&self.waiting, cutoff)?;
+        if self.kept.outs == 0 && self.settings.order == Order::Best {
+            let key = first_if_open(&self.kept.waiting, cutoff)?;
             return Some(key.low);
         }
-        least_live(&self.records, cutoff)
+        least_live(&self.kept.records, cutoff)
     }
 
-    /// What the search knows: the best point and whether it is optimal or within the gap, or that no point is feasible, or a bound.
+    /// What the search knows: the best point and whether it is optimal or within the gap, or
+    /// that no point is feasible, or a bound.
     pub fn answer(&self) -> Answer<'_>
         ensures answer { verdict_of result ≡ verdict_for self.now }
         ensures means { IsTrueFor self.now.problem (verdict_of result) }
@@ -210,10 +214,10 @@ impl Tree {
         ensures { result ≡ glance_for self.now }
     {
         Glance {
-            nodes: self.records.len() as u32,
-            used: self.used,
-            out: self.outs,
-            best: self.best,
+            nodes: self.kept.records.len() as u32,
+            used: self.kept.used,
+            out: self.kept.outs,
+            best: self.kept.best,
         }
     }
 
@@ -223,7 +227,7 @@ impl Tree {
         ensures same { self.new ≡ self.old }
     {
         let cutoff = self.cutoff();
-        let key = first_open(&mut self.waiting, cutoff)?;
+        let key = first_open(&mut self.kept.waiting, cutoff)?;
         Some(key.id)
     }
 
@@ -233,32 +237,32 @@ impl Tree {
         ensures err { OnErr result (self.new ≡ self.old) }
     {
         let Some(id) = self.next_live() else {
-            if self.outs > 0 {
+            if self.kept.outs > 0 {
                 return Ok(Taken::Idle);
             }
             return Ok(Taken::Done);
         };
-        if self.used >= self.settings.nodes {
+        if self.kept.used >= self.settings.nodes {
             return Ok(Taken::Spent);
         }
         let cutoff = self.cutoff();
         let chain = self.chain_to(id)?;
         // Room for this take, and for the put or the back of each lease.
-        let leases = self.outs as usize + 1;
+        let leases = self.kept.outs as usize + 1;
         self.journal.reserve(leases + 1)?;
         make_room(
-            &mut self.records,
-            &mut self.waiting,
-            &mut self.candidates,
+            &mut self.kept.records,
+            &mut self.kept.waiting,
+            &mut self.kept.candidates,
             leases,
         )?;
-        let record = &mut self.records[id as usize];
+        let record = &mut self.kept.records[id as usize];
         let depth = record.depth;
         let low = record.low;
-        record.stage = Stage::Out(seat);
-        leave(&mut self.waiting, id);
-        self.outs += 1;
-        self.used += 1;
+        record.stage = State::Out { seat };
+        leave(&mut self.kept.waiting, id);
+        self.kept.outs += 1;
+        self.kept.used += 1;
         self.journal.push_reserved(Entry::Take { seat, id });
         Ok(Taken::Node(Lease {
             id,
@@ -273,15 +277,20 @@ impl Tree {
     fn chain_to(&self, id: u32) -> Result<Chain<Cut>, AllocError>
         requires born { IsBorn self.now id }
         requires stands { state_of (past_of self.now) id ≢ freed }
-        ensures pieces { IfOk result (λ chain. pieces_of chain ≡ chain_of self.now.problem self.now.settings (past_of self.now) id) }
-        ensures sound { IfOk result (λ chain. StandsFor chain (full_of self.now.problem (past_of self.now) id)) }
+        ensures pieces { IfOk result (λ chain. pieces_of chain
+            ≡ chain_of self.now.problem self.now.settings (past_of self.now) id) }
+        ensures sound { IfOk result
+            (λ chain. StandsFor chain (full_of self.now.problem (past_of self.now) id)) }
     {
-        let record = &self.records[id as usize];
+        let record = &self.kept.records[id as usize];
         let Some(piece) = &record.piece else {
             unreachable!()
         };
         match piece {
-            Piece::Explicit(desc) => Ok(Chain::begin(*self.records.allocator(), desc.share()?)),
+            Piece::Explicit(desc) => Ok(Chain::begin(
+                *self.kept.records.allocator(),
+                desc.share()?,
+            )),
             Piece::Relative(change) => {
                 let Some(parent) = record.parent else {
                     unreachable!()
@@ -303,14 +312,19 @@ impl Tree {
         let Outcome { found, low, next } = outcome;
         let problem = self.problem.get();
         let now = self.journal.len();
-        self.best_place = place_after(problem, self.best, &found, self.best_place, now);
-        self.fell |= is_better(problem, self.best, &found);
-        self.best = best_after(problem, self.best, &found);
-        self.outs -= 1;
-        add(&mut self.candidates, id);
+        let Improved {
+            value,
+            place,
+            better,
+        } = improve(problem, self.kept.best, self.kept.best_place, &found, now);
+        self.kept.best = value;
+        self.kept.best_place = place;
+        self.kept.fell |= better;
+        self.kept.outs -= 1;
+        add(&mut self.kept.candidates, id);
         match next {
             Next::Shut => {
-                self.records[id as usize].stage = Stage::Closed;
+                self.kept.records[id as usize].stage = State::Shut;
                 self.journal
                     .push_reserved(put_of(seat, id, found, low, Step::Shut));
                 None
@@ -325,23 +339,25 @@ impl Tree {
                 let (left_open, right_open) = self
                     .problem
                     .have_points(&chain, common.get(), column as usize, at);
-                let count = self.records.len() as u32;
-                let parent = &mut self.records[id as usize];
-                parent.stage = Stage::Parted;
+                let count = self.kept.records.len() as u32;
+                let parent = &mut self.kept.records[id as usize];
+                parent.stage = State::Split;
                 parent.children = Some(count);
                 let depth = parent.depth + 1;
                 let child_low = parent.low.max(low);
-                self.records
+                self.kept
+                    .records
                     .push_reserved(new_record(id, depth, child_low, left_open, left));
-                self.records
+                self.kept
+                    .records
                     .push_reserved(new_record(id, depth, child_low, right_open, right));
                 let key = Key {
                     id: count,
                     low: child_low,
                     depth,
                 };
-                join_children(&mut self.waiting, key, left_open, right_open);
-                add_two(&mut self.candidates, count);
+                join_children(&mut self.kept.waiting, key, left_open, right_open);
+                add_two(&mut self.kept.candidates, count);
                 let step = Step::Split { common, column, at };
                 self.journal
                     .push_reserved(put_of(seat, id, found, low, step));
@@ -359,13 +375,20 @@ impl Tree {
         ensures { self.new ≡ extended self.old (Back seat lease.id) }
     {
         let id = number_of(lease);
-        let record = &mut self.records[id as usize];
-        record.stage = Stage::Waiting;
-        join_if(&mut self.waiting, key_of(id, record), record.has_point);
-        add(&mut self.candidates, id);
-        self.outs -= 1;
-        self.used -= 1;
+        let record = &mut self.kept.records[id as usize];
+        record.stage = State::Waiting;
+        join_if(&mut self.kept.waiting, key_of(id, record), record.has_point);
+        add(&mut self.kept.candidates, id);
+        self.kept.outs -= 1;
+        self.kept.used -= 1;
         self.journal.push_reserved(Entry::Back { seat, id });
+    }
+
+    /// Lets a lease go, which is then not spent: the tree stays as it is, and the node stays out.
+    pub fn let_go(&mut self, lease: Lease)
+        ensures { self.new ≡ self.old }
+    {
+        number_of(lease);
     }
 
     // Whether the node is freed; not where there is none.
@@ -374,7 +397,7 @@ impl Tree {
         ensures { result ≡ is_freed_if self.now id }
     {
         match id {
-            Some(id) => self.records[id as usize].is_gone(),
+            Some(id) => self.kept.records[id as usize].is_gone(),
             None => false,
         }
     }
@@ -384,7 +407,7 @@ impl Tree {
         requires { IsBorn self.now id }
         ensures { result ≡ encoding_for self.now id form }
     {
-        let record = &self.records[id as usize];
+        let record = &self.kept.records[id as usize];
         let Some(piece) = &record.piece else {
             return Encoding::Gone;
         };
@@ -405,7 +428,7 @@ impl Tree {
         requires { IsBorn self.now id }
         ensures { result ≡ related_for self.now id }
     {
-        let record = &self.records[id as usize];
+        let record = &self.kept.records[id as usize];
         if record.depth % self.settings.span == 0 {
             Encoding::Fixed
         } else if self.is_gone(record.parent) {
@@ -433,7 +456,8 @@ impl Tree {
     fn relative_plan(&self, id: u32, parent: u32) -> Result<Plan, AllocError>
         requires born { IsBorn self.now id }
         requires stands { state_of (past_of self.now) id ≢ freed }
-        requires spanned { is_spanned self.now.problem self.now.settings (past_of self.now) id ≡ false }
+        requires spanned { is_spanned self.now.problem self.now.settings (past_of self.now) id
+            ≡ false }
         requires parent { (node_at self.now.problem (past_of self.now) id).parent ≡ Some parent }
         requires parent_stands { state_of (past_of self.now) parent ≢ freed }
         ensures { IfOk result (λ plan. IsPlanFor self.now id Relative plan) }
@@ -458,7 +482,7 @@ impl Tree {
         match form {
             Form::Explicit => self.whole_plan(id),
             Form::Relative => {
-                let Some(parent) = self.records[id as usize].parent else {
+                let Some(parent) = self.kept.records[id as usize].parent else {
                     unreachable!()
                 };
                 self.relative_plan(id, parent)
@@ -466,7 +490,9 @@ impl Tree {
         }
     }
 
-    /// Plans to store a node that is born in another form. The plan shares the tree's pieces: it is encoded without the tree, and what is made of it is installed. `AllocError` where the count of owners of a piece can't grow.
+    /// Plans to store a node that is born in another form. The plan shares the tree's pieces: it
+    /// is encoded without the tree, and what is made of it is installed. `AllocError` where the
+    /// count of owners of a piece can't grow.
     pub fn plan(&self, id: u32, form: Form) -> Result<Planned, AllocError>
         requires { IsBorn self.now id }
         ensures { IfOk result (λ planned. Plans self.now id form planned) }
@@ -479,8 +505,9 @@ impl Tree {
         }
     }
 
-    /// Stores a node as a job has it. `AllocError` where there is no memory; the tree is then as it was.
-    pub fn install(&mut self, seat: u32, job: Job) -> Result<Installed, AllocError>
+    /// Stores a node as a job has it. The piece that is left over comes back with the answer.
+    /// `AllocError` where there is no memory; the tree is then as it was.
+    pub fn install(&mut self, seat: u32, job: Job) -> Result<SpentJob, AllocError>
         requires { IsJobOf self.old job }
         ensures installed { IfOk result (λ answer. Installs self.old seat job answer self.new) }
         ensures err { OnErr result (self.new ≡ self.old) }
@@ -488,30 +515,39 @@ impl Tree {
         let Job { id, form, piece } = job;
         let encoding = self.encoding(id, form);
         if encoding != Encoding::Open {
-            return Ok(installed_as(encoding));
+            return Ok(spent_job(installed_as(encoding), Some(piece)));
         }
-        let outs = self.outs as usize;
+        let outs = self.kept.outs as usize;
         self.journal.reserve(outs + 1)?;
-        self.candidates.reserve(3 * outs + 1, 0)?;
-        let parent = store(&mut self.records, id as usize, piece);
-        add_if(&mut self.candidates, parent);
+        self.kept.candidates.reserve(3 * outs + 1, 0)?;
+        let (parent, before) = store(&mut self.kept.records, id as usize, piece);
+        add_if(&mut self.kept.candidates, parent);
         self.journal.push_reserved(Entry::Encode { seat, id, form });
-        Ok(Installed::Made)
+        Ok(spent_job(Installed::Made, before))
     }
 
     // The least node that may be freed. The candidates before it go.
     fn next_to_go(&mut self) -> Result<Option<u32>, AllocError>
-        ensures next { IfOk result (λ first. first ≡ first_freeable self.old.problem self.old.settings (past_of self.old)) }
+        ensures next { IfOk result (λ first. first
+            ≡ first_freeable self.old.problem self.old.settings (past_of self.old)) }
         ensures same { self.new ≡ self.old }
     {
         let cutoff = self.cutoff();
-        let room = 3 * self.outs as usize;
-        refresh(&mut self.candidates, self.fell, &self.records, cutoff, room)?;
-        self.fell = false;
-        Ok(first_to_go(&mut self.candidates, &self.records, cutoff))
+        let room = 3 * self.kept.outs as usize;
+        refresh(
+            &mut self.kept.candidates,
+            self.kept.fell,
+            &self.kept.records,
+            cutoff,
+            room,
+        )?;
+        self.kept.fell = false;
+        Ok(first_to_go(&mut self.kept.candidates, &self.kept.records, cutoff))
     }
 
-    /// Frees the least node that may be freed, and then each parent in turn as long as it may be. `Nothing` exactly where no node may be freed. `AllocError` where there is no memory; the tree is then as it was.
+    /// Frees the least node that may be freed, and then each parent in turn as long as it may
+    /// be. What was stored of them comes back with their numbers. `Nothing` exactly where no
+    /// node may be freed. `AllocError` where there is no memory; the tree is then as it was.
     pub fn free(&mut self, seat: u32) -> Result<Freed, AllocError>
         ensures freed { IfOk result (λ answer. Frees self.old seat answer self.new) }
         ensures err { OnErr result (self.new ≡ self.old) }
@@ -521,17 +557,18 @@ impl Tree {
             return Ok(Freed::Nothing);
         };
         let cutoff = self.cutoff();
-        let alloc = *self.records.allocator();
-        self.journal.reserve(self.outs as usize + 1)?;
-        let most = self.records[first as usize].depth as usize + 1;
+        let alloc = *self.kept.records.allocator();
+        self.journal.reserve(self.kept.outs as usize + 1)?;
+        let most = self.kept.records[first as usize].depth as usize + 1;
         let mut ids = Vec::with_capacity(alloc, most)?;
         let mut chain = Vec::with_capacity(alloc, most)?;
-        free_up(&mut self.records, cutoff, first, &mut ids);
+        let mut pieces = Vec::with_capacity(alloc, most)?;
+        free_up(&mut self.kept.records, cutoff, first, &mut ids, &mut pieces);
         ids.shrink_to_fit();
         copy_into(&ids, &mut chain);
-        leave(&mut self.waiting, first);
+        leave(&mut self.kept.waiting, first);
         let ids = Items::from_vec(ids);
         self.journal.push_reserved(Entry::Free { seat, ids });
-        Ok(Freed::Chain(Items::from_vec(chain)))
+        Ok(Freed::Chain(freed_nodes(chain, pieces)))
     }
 }

@@ -15,7 +15,8 @@ use std::alloc::{AllocError, Global};
 use std::marker::Model;
 use std::sync::Arc;
 
-/// A problem, and the room for the bounds of one box, so that a look at a box takes no memory. Contracts see the problem.
+/// A problem, and the room for the bounds of one box, so that a look at a box takes no memory.
+/// Contracts see the problem.
 #[derive(Drop)]
 pub struct Workspace {
     problem: Shared<Problem>,
@@ -32,7 +33,8 @@ impl Model for Workspace {
 
     ghost view = { λ w. w.problem };
 
-    ghost invariant = { λ w. (length w.lows ≡ length w.problem.columns) × (length w.highs ≡ length w.problem.columns) };
+    ghost invariant = { λ w. (length w.lows ≡ length w.problem.columns)
+        × (length w.highs ≡ length w.problem.columns) };
 }
 
 impl Workspace {
@@ -57,7 +59,8 @@ impl Workspace {
         self.problem.get()
     }
 
-    /// Whether the boxes of the two children have a point, where the node that a chain stands for is split after a change. Takes no memory.
+    /// Whether the boxes of the two children have a point, where the node that a chain stands
+    /// for is split after a change. Takes no memory.
     pub fn have_points(
         &mut self,
         chain: &Chain<Cut>,
@@ -69,10 +72,13 @@ impl Workspace {
         requires fits { Fits common.now (described_by chain.now) }
         requires width { length (described_by chain.now).lows ≡ length self.old.columns }
         requires column { column < length self.old.columns }
-        requires below { at <ℤ slice_index_or (changed common.now (described_by chain.now)).highs column (pos 0) }
+        requires below { at <ℤ slice_index_or (changed common.now (described_by chain.now)).highs
+            column (pos 0) }
         ensures same { self.new ≡ self.old }
-        ensures left { result.0 ≡ box_has_point (left_child (changed common.now (described_by chain.now)) column at) }
-        ensures right { result.1 ≡ box_has_point (right_child (changed common.now (described_by chain.now)) column at) }
+        ensures left { result.0 ≡ box_has_point
+            (left_child (changed common.now (described_by chain.now)) column at) }
+        ensures right { result.1 ≡ box_has_point
+            (right_child (changed common.now (described_by chain.now)) column at) }
     {
         write_bounds(chain, &mut self.lows, &mut self.highs);
         have_points(&mut self.lows, &mut self.highs, common, column, at)

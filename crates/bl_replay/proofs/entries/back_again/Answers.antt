@@ -10,4 +10,5 @@ returns-clause-held c =
     let t = c.args.tree.now in
     let entered : c.back.new.self ≡ extended t (Back c.args.seat c.args.id) = search rules in
     subst (λ (u : TreeView). HasLeases u c.remove.new.self) (sym entered)
-    (leases_back t c.args.seat c.args.id c.args.leases.now c.remove.new.self c.journal-journal.ensures.legal c.requires.held c.remove.ensures.updates)
+    (leases_back t c.args.seat c.args.id c.args.leases.now c.remove.new.self
+    c.journal-journal.ensures.legal c.requires.held c.remove.ensures.updates)

@@ -14,23 +14,33 @@ pub outcome_again-requires-clause-allowed : goal.outcome_again-requires-clause-a
 outcome_again-requires-clause-allowed c =
     let t = c.args.tree.now in
     let held = c.in-Some.held.now in
-    let there : get nat_cmp c.args.leases.now c.args.id ≡ Some held = sym c.get.ensures.value ∙ ap option_copied c.in-Some.is in
-    let own = lease_found t c.args.seat c.args.id _ held there (c.requires.held c.args.id c.args.seat c.requires.allowed.is_out) in
+    let there : get nat_cmp c.args.leases.now c.args.id ≡ Some held = sym c.get.ensures.value
+    ∙ ap option_copied c.in-Some.is in
+    let own = lease_found t c.args.seat c.args.id _ held there
+    (c.requires.held c.args.id c.args.seat c.requires.allowed.is_out) in
     let fits : FitsSigned w128 c.args.low = search rules in
     let back = to_z-of_z w128 c.args.low fits in
-    subst (λ (low : ℤ). MayPut t.problem t.settings (past_of t) c.args.seat held.id c.args.found.now low c.args.step.now) (sym back)
-    (subst (λ (id : ℕ). MayPut t.problem t.settings (past_of t) c.args.seat id c.args.found.now c.args.low c.args.step.now) (sym own.0) c.requires.allowed)
+    subst (λ (low : ℤ). MayPut t.problem t.settings (past_of t) c.args.seat held.id
+    c.args.found.now low c.args.step.now) (sym back)
+    (subst (λ (id : ℕ). MayPut t.problem t.settings (past_of t) c.args.seat id c.args.found.now
+    c.args.low c.args.step.now) (sym own.0) c.requires.allowed)
 
 pub returns-clause-held : goal.returns-clause-held
 returns-clause-held c =
     let t = c.args.tree.now in
     let lease = c.in-Some-remove.lease in
     let outcome = c.in_ok-outcome.outcome in
-    let there : get nat_cmp c.args.leases.now c.args.id ≡ Some lease = sym c.remove.ensures.value ∙ c.in-Some-remove.is in
-    let own = lease_found t c.args.seat c.args.id _ lease there (c.requires.held c.args.id c.args.seat c.requires.allowed.is_out) in
+    let there : get nat_cmp c.args.leases.now c.args.id ≡ Some lease = sym c.remove.ensures.value
+    ∙ c.in-Some-remove.is in
+    let own = lease_found t c.args.seat c.args.id _ lease there
+    (c.requires.held c.args.id c.args.seat c.requires.allowed.is_out) in
     let fits : FitsSigned w128 c.args.low = search rules in
-    let entered : c.put.new.self ≡ extended t (Put c.args.seat c.args.id c.args.found.now c.args.low c.args.step.now) =
+    let entered : c.put.new.self ≡ extended t
+    (Put c.args.seat c.args.id c.args.found.now c.args.low c.args.step.now) =
     c.put.ensures.entry
-    ∙ ap (extended t) (put_same c.args.seat lease.id c.args.id outcome c.args.found.now c.args.low c.args.step.now own.0 c.in_ok-outcome.ensures.found
+    ∙ ap (extended t) (put_same c.args.seat lease.id c.args.id outcome c.args.found.now c.args.low
+    c.args.step.now own.0 c.in_ok-outcome.ensures.found
     (c.in_ok-outcome.ensures.low ∙ to_z-of_z w128 c.args.low fits) c.in_ok-outcome.ensures.step) in
-    put_again t c.put.new.self c.args.seat c.args.id c.args.found.now c.args.low c.args.step.now c.args.leases.now c.remove.new.self c.journal-journal.ensures.legal c.requires.held entered c.remove.ensures.updates
+    put_again t c.put.new.self c.args.seat c.args.id c.args.found.now c.args.low c.args.step.now
+    c.args.leases.now c.remove.new.self c.journal-journal.ensures.legal c.requires.held
+    entered c.remove.ensures.updates

@@ -4,6 +4,11 @@ use Rattle.bl_replay.proofs.trees.enter_all.Given as goal
 
 abbrev pub invariant-loop-entry : goal.invariant-loop-entry
 invariant-loop-entry l = record {
-  done : l.tree ≡ record { problem = l.initial.tree.problem; settings = l.initial.tree.settings; history = take l.entry-index l.entries };
+  done : l.tree ≡ record {
+    problem = l.initial.tree.problem;
+    settings =
+        l.initial.tree.settings;
+    history = take l.entry-index l.entries;
+  };
   held : HasLeases l.tree l.leases;
 }

@@ -7,8 +7,11 @@ invariant-loop-parent l = record {
   freeing : IsFreeingUp l.cutoff l.fn.records.items l.first l.ids.items l.last l.records.items;
   linked : AreLinked l.records.items;
   there : l.last < length l.records.items;
-  room : length l.ids.items + depth_if (slice_get l.records.items l.last) ≤ depth_if (slice_get l.fn.records.items l.first) + 1;
+  room : length l.ids.items + depth_if (slice_get l.records.items l.last)
+      ≤ depth_if (slice_get l.fn.records.items l.first) + 1;
   wide : vec_capacity l.ids ≡ vec_capacity l.fn.ids;
+  as_many : length l.pieces.items ≡ length l.ids.items;
+  pieces_wide : vec_capacity l.pieces ≡ vec_capacity l.fn.pieces;
   capacity : vec_capacity l.records ≡ vec_capacity l.fn.records;
 }
 

@@ -8,4 +8,5 @@ use Rattle.bl_tree.proofs.lease.parts_of.Goals as goal
 pub returns-clause-gives : goal.returns-clause-gives
 returns-clause-gives c =
     ap (λ (v : LeaseView). rebuilt v.chain) (sym c.lease.view_is)
-    ∙ rebuilt_is c.lease.inside.chain (described_by c.lease.inside.chain) (record { whole = c.lease.invariant.whole; fits = c.lease.invariant.fits; gives = refl })
+    ∙ rebuilt_is c.lease.inside.chain (described_by c.lease.inside.chain)
+    (record { whole = c.lease.invariant.whole; fits = c.lease.invariant.fits; gives = refl })

@@ -4,4 +4,5 @@ use Rattle.bl_journal.specs.States.{has_point}
 use Rattle.bl_tree.proofs.search.has_point.Given as goal
 
 abbrev pub invariant-loop-i : goal.invariant-loop-i
-invariant-loop-i l = has_point l.lows l.highs ≡ (l.ordered && has_point (drop l.i l.lows) (drop l.i l.highs))
+invariant-loop-i l = has_point l.lows l.highs
+    ≡ (l.ordered && has_point (drop l.i l.lows) (drop l.i l.highs))

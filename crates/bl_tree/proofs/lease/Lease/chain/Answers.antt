@@ -8,4 +8,5 @@ use Rattle.bl_tree.proofs.lease.Lease.chain.Goals as goal
 pub returns-clause-gives : goal.returns-clause-gives
 returns-clause-gives c =
     ap (λ (v : LeaseView). rebuilt v.chain) (sym c.self.view_is)
-    ∙ rebuilt_is c.self.inside.chain (described_by c.self.inside.chain) (record { whole = c.self.invariant.whole; fits = c.self.invariant.fits; gives = refl })
+    ∙ rebuilt_is c.self.inside.chain (described_by c.self.inside.chain)
+    (record { whole = c.self.invariant.whole; fits = c.self.invariant.fits; gives = refl })

@@ -1,4 +1,5 @@
-use Rattle.std.proofs.Common.{◌≤◌, [], ◌∷◌, ◌++◌, List, ap, sym, ◌∙◌, rules, arith, cond, Some, None, ◌≡◌}
+use Rattle.std.proofs.Common.{◌≤◌, [], ◌∷◌, ◌++◌, List, refl, ap, sym, ◌∙◌, rules, arith, cond}
+use Rattle.std.proofs.Common.{Some, None, ◌≡◌}
 use Rattle.std.specs.Prelude.{FitsSigned, ℤ, vec_capacity}
 use Rattle.std.specs.Int.{w128}
 use Rattle.std.proofs.lemmas.Int.{to_z-of_z}
@@ -17,24 +18,36 @@ pub invariant_of-result : goal.invariant_of-result
 invariant_of-result c =
     let p : Program = c.in_ok-problem.problem in
     let fit : FitsSigned w128 c.root_low-low.result = search rules in
-    let low = to_z-of_z w128 _ fit ∙ (c.root_low-low.ensures ∙ ap (λ (q : Program). trivial_bound_of q (own_lows q) (own_highs q)) c.get-2.ensures) in
+    let low = to_z-of_z w128 _ fit ∙ (c.root_low-low.ensures
+    ∙ ap (λ (q : Program). trivial_bound_of q (own_lows q) (own_highs q)) c.get-2.ensures) in
     let desc = c.in_ok-new.ensures ∙ (c.in_ok-desc.ensures ∙ ap root_desc c.get.ensures) in
-    let is = c.root_record-record.ensures ∙ (ap (λ (z : ℤ). root_record z c.in_ok-new.field-0) low ∙ ap (root_record (trivial_bound_of p (own_lows p) (own_highs p))) desc) in
-    let r = c.in_ok-push.ensures.items ∙ ap (λ (l : List Record). l ++ c.root_record-record.result ∷ []) c.new-records.ensures.items in
+    let is = c.root_record-record.ensures ∙ (ap (λ (z : ℤ). root_record z c.in_ok-new.field-0) low
+    ∙ ap (root_record (trivial_bound_of p (own_lows p) (own_highs p))) desc) in
+    let r = c.in_ok-push.ensures.items
+    ∙ ap (λ (l : List Record). l ++ c.root_record-record.result ∷ [])
+    c.new-records.ensures.items in
     let a : 1 ≤ vec_capacity c.push.new.self = search rules in
     let listed_long = c.add.ensures.below in
     let listed_asked = c.in_ok-reserve-2.ensures.below in
     let pool : PoolView = c.join_if.new.pool in
     let key = c.key_of.ensures in
     let same : c.key_of.result.id ≡ 0 = ap (λ (k : Key). k.id) key in
-    let order : pool.order ≡ c.args.settings.order = c.join_if.ensures.order ∙ (c.reserve.ensures.order ∙ c.new-waiting.ensures.order) in
+    let order : pool.order ≡ c.args.settings.order = c.join_if.ensures.order
+    ∙ (c.reserve.ensures.order ∙ c.new-waiting.ensures.order) in
     let long = c.join_if.ensures.below in
     let asked = c.in_ok-reserve.ensures.below in
-    let here = ap (key_in pool) (sym same) ∙ (c.join_if.ensures.here ∙ ap (λ (k : Key). cond c.root_record-record.result.has_point (Some k) None) key) in
-    rw (c.new-3.ensures, r) (root_tree p c.args.settings c.new-3.result.room (vec_capacity c.push.new.self) pool c.add.new.pool c.root_record-record.result is
-    c.requires.span c.requires.short c.requires.few c.requires.gap_some c.requires.gap_few a (omega (arith, long, asked)) (omega (arith, listed_long, listed_asked)) c.add.ensures.plain c.add.ensures.here order here
-    (λ id ne. c.join_if.ensures.others id (λ i. ne (i ∙ same)) ∙ (c.reserve.ensures.keys id ∙ c.new-waiting.ensures.empty id)))
+    let here = ap (key_in pool) (sym same)
+    ∙ (c.join_if.ensures.here ∙ ap
+    (λ (k : Key). cond c.root_record-record.result.has_point (Some k) None) key) in
+    root_tree _ c.root_record-record.result refl c.new-3.ensures r is
+    c.requires.span c.requires.short c.requires.few c.requires.gap_some c.requires.gap_few a
+    (omega (arith, long, asked)) (omega (arith, listed_long, listed_asked))
+    c.add.ensures.plain c.add.ensures.here order here
+    (λ id ne. c.join_if.ensures.others id (λ i. ne (i ∙ same))
+    ∙ (c.reserve.ensures.keys id ∙ c.new-waiting.ensures.empty id))
 
 pub add-requires-clause-plain : goal.add-requires-clause-plain
 add-requires-clause-plain c =
-    no_candidates c.reserve-2.new.self (c.reserve-2.ensures.order ∙ c.new-candidates.ensures.order) (λ id. c.reserve-2.ensures.keys id ∙ c.new-candidates.ensures.empty id)
+    no_candidates c.reserve-2.new.self (c.reserve-2.ensures.order
+    ∙ c.new-candidates.ensures.order) (λ id. c.reserve-2.ensures.keys id
+    ∙ c.new-candidates.ensures.empty id)

@@ -5,12 +5,14 @@ use Rattle.bl_tree.proofs.workspace.Workspace.have_points.Goals as goal
 
 pub write_bounds-requires-clause-lows : goal.write_bounds-requires-clause-lows
 write_bounds-requires-clause-lows c =
-    c.self.invariant.0 ∙ (ap (λ (p : Program). length p.columns) c.self.view_is ∙ (sym c.requires.width ∙ described_lows c.args.chain.now.changes c.args.chain.now.top))
+    c.self.invariant.0 ∙ (ap (λ (p : Program). length p.columns) c.self.view_is
+    ∙ (sym c.requires.width ∙ described_lows c.args.chain.now.changes c.args.chain.now.top))
 
 pub write_bounds-requires-clause-highs : goal.write_bounds-requires-clause-highs
 write_bounds-requires-clause-highs c =
     c.self.invariant.1 ∙ (ap (λ (p : Program). length p.columns) c.self.view_is
-    ∙ (sym c.requires.width ∙ (described_lows c.args.chain.now.changes c.args.chain.now.top ∙ sym c.requires.chain.whole.highs)))
+    ∙ (sym c.requires.width ∙ (described_lows c.args.chain.now.changes c.args.chain.now.top
+    ∙ sym c.requires.chain.whole.highs)))
 
 pub have_points-requires-clause-high : goal.have_points-requires-clause-high
 have_points-requires-clause-high c =
@@ -32,5 +34,8 @@ invariant_of-self c =
     let whole = c.requires.chain.whole.highs in
     let width = c.requires.width in
     let after_lows = c.have_points.ensures.lows in
-    let after_highs = c.have_points.ensures.highs in
-    (omega (arith, same, new_lows, width, after_lows), omega (arith, same, new_highs, highs, lows, whole, width, after_highs))
+    let after_highs = c.have_points.ensures.highs in (
+      omega (arith, same, new_lows, width, after_lows),
+      omega
+          (arith, same, new_highs, highs, lows, whole, width, after_highs),
+    )
