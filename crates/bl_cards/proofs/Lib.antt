@@ -1,16 +1,17 @@
 pub mod Differing
-pub mod Places
-pub mod RowLines
+mod Places
+mod RowLines
 pub mod Grids
-pub mod GivenLines
+mod GivenLines
 pub mod Walks
-pub mod Faults
-pub mod Coherent
-pub mod NumbersRead
-pub mod CoherentColumns
-pub mod CoherentLines
-pub mod SectionLaw
-pub mod ColumnLaw
-pub mod SetLaw
-pub mod SenseLaw
-pub mod FirstFault
+mod Faults
+mod Coherent
+mod NumbersRead
+mod CoherentColumns
+mod CoherentLines
+mod SectionLaw
+mod StretchLaw
+mod ColumnLaw
+mod SetLaw
+mod SenseLaw
+mod FirstFault

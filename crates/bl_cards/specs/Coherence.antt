@@ -1,5 +1,6 @@
 -- What holds of everything that a file says.
-use Rattle.std.specs.Prelude.{◌≡◌, ℕ, ◌<◌, ◌≤◌, ◌^◌, ◌⊎◌, false, List, length, map, All, AllPairs, ℤ, unsigned_abs}
+use Rattle.std.specs.Prelude.{◌≡◌, ℕ, ◌<◌, ◌≤◌, ◌^◌, ◌⊎◌, false, List, length, map, All, AllPairs}
+use Rattle.std.specs.Prelude.{ℤ, unsigned_abs}
 use Rattle.bl_num.specs.declared.Decimal.{Decimal}
 use Rattle.bl_num.specs.Spellings.{IsCanonical, IsWithinLimits}
 use Rattle.bl_problem.specs.Program.{IsName, IsRowName}

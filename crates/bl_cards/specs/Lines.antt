@@ -1,5 +1,8 @@
 -- What each line adds to what was said, or the first rule that it breaks.
-use Rattle.std.specs.Prelude.{ℕ, ◌+◌, ◌-◌, ◌*◌, ◌^◌, Bool, true, false, not, ◌&&◌, ◌||◌, ◌==◌, nat_le, nat_lt, if◌then◌else◌, List, [], ◌∷◌, ◌++◌, length, Option, Some, None, is_none, is_some, ℤ, pos, nat_abs, Result, Ok, Err, codes}
+use Rattle.std.specs.Prelude.{ℕ, ◌+◌, ◌-◌, ◌*◌, ◌^◌, Bool, true, false, not, ◌&&◌, ◌||◌, ◌==◌}
+use Rattle.std.specs.Prelude.{nat_le, nat_lt, if◌then◌else◌, List, [], ◌∷◌, ◌++◌, length, Option}
+use Rattle.std.specs.Prelude.{Some, None, is_none, is_some, ℤ, pos, nat_abs, Result, Ok, Err}
+use Rattle.std.specs.Prelude.{codes}
 use Rattle.std.specs.List.{list_any, list_all}
 use Rattle.bl_num.specs.declared.Decimal.{Decimal}
 use Rattle.bl_problem.specs.declared.problem.Sense.{Sense}
@@ -10,12 +13,14 @@ use Rattle.bl_num.specs.Decimals.{decimal_of}
 use Rattle.bl_cards.specs.declared.kind.What.{What}
 use Rattle.bl_cards.specs.declared.kind.What.TheVariants as what
 use Rattle.bl_cards.specs.declared.kind.Section.{Section}
-use Rattle.bl_cards.specs.declared.kind.Section.TheVariants.{Start, Name, Objsense, Rows, Columns, Rhs, Ranges, Bounds, End}
+use Rattle.bl_cards.specs.declared.kind.Section.TheVariants.{Start, Name, Objsense, Rows, Columns}
+use Rattle.bl_cards.specs.declared.kind.Section.TheVariants.{Rhs, Ranges, Bounds, End}
 use Rattle.bl_cards.specs.declared.kind.Role.{Role}
 use Rattle.bl_cards.specs.declared.kind.Role.TheVariants.{Objective, Extra, AtMost, AtLeast, Equal}
 use Rattle.bl_cards.specs.declared.kind.Act.{Act}
 use Rattle.bl_cards.specs.declared.kind.Act.TheVariants as act
-use Rattle.bl_cards.specs.Said.{same, place_of, RowLine, Cell, Given, Card, SetOf, Grid, Said, ◌>>=◌, refuse, there_or}
+use Rattle.bl_cards.specs.Said.{same, place_of, RowLine, Cell, Given, Card, SetOf, Grid, Said}
+use Rattle.bl_cards.specs.Said.{◌>>=◌, refuse, there_or}
 
 -- ---- names
 
@@ -52,7 +57,8 @@ sense_word word = there_or what.Words (sense_of word) >>= λ sense. Ok (Some sen
 -- one word, where none came before
 abbrev pub sense_line : Option Sense → List (List ℕ) → Result (Option Sense) What
 sense_line said [] = Err what.Words
-sense_line said (word ∷ []) = sense_word word >>= λ sense. refuse (is_some said) what.Twice >>= λ once. Ok sense
+sense_line said (word ∷ []) = sense_word word >>= λ sense. refuse (is_some said) what.Twice
+    >>= λ once. Ok sense
 sense_line said (word ∷ more ∷ words) = Err what.Words
 
 -- without OBJSENSE the objective is minimised
@@ -123,12 +129,19 @@ rows_line rows (kind ∷ name ∷ more ∷ words) = Err what.Words
 -- ---- COLUMNS
 
 abbrev pub started : Grid → List ℕ → Grid
-started g name = record g { names = g.names ++ name ∷ []; whole = g.whole ++ g.in_stretch ∷ []; is_open = true }
+started g name = record g {
+  names = g.names ++ name ∷ [];
+  whole = g.whole ++ g.in_stretch
+      ∷ [];
+  is_open = true;
+}
 
 -- the open column goes on, or a new one starts; a column that was left does not come again
 abbrev pub at_place : Grid → List ℕ → Option ℕ → Result Grid What
-at_place g name None = refuse (nat_le 1000 (length g.names)) what.TooMany >>= λ few. Ok (started g name)
-at_place g name (Some place) = refuse (not (g.is_open && place + 1 == length g.names)) what.Twice >>= λ last. Ok g
+at_place g name None = refuse (nat_le 1000 (length g.names)) what.TooMany
+    >>= λ few. Ok (started g name)
+at_place g name (Some place) = refuse (not (g.is_open && place + 1 == length g.names)) what.Twice
+    >>= λ last. Ok g
 
 abbrev pub at_column : Grid → List ℕ → Result Grid What
 at_column g name = at_place g name (place_of g.names name)
@@ -141,7 +154,14 @@ has_cell cells column row = list_any (λ c. c.column == column && same row c.row
 abbrev pub add_cell : Grid → List ℕ → Decimal → Result Grid What
 add_cell g row number = do
   once ← refuse (has_cell g.cells (length g.names - 1) row) what.Twice
-  Ok (record g { cells = g.cells ++ record { column = length g.names - 1; row = row; number = number } ∷ [] })
+  Ok (record g {
+    cells = g.cells ++ record {
+      column = length g.names - 1;
+      row = row;
+      number =
+          number;
+    } ∷ [];
+  })
 
 -- a number of a row without ends other than the objective is passed over
 abbrev pub put_cell : Grid → List ℕ → Decimal → Role → Result Grid What
@@ -164,7 +184,8 @@ column_cell rows g name row word = at_column g name >>= λ here. cell rows here 
 -- a column, and one or two pairs of a row and a number
 abbrev pub column_line : List RowLine → Grid → List (List ℕ) → Result Grid What
 column_line rows g (name ∷ row ∷ word ∷ []) = column_cell rows g name row word
-column_line rows g (name ∷ row ∷ word ∷ row2 ∷ word2 ∷ []) = cell_too rows (column_cell rows g name row word) row2 word2
+column_line rows g (name ∷ row ∷ word ∷ row2 ∷ word2 ∷ []) =
+    cell_too rows (column_cell rows g name row word) row2 word2
 column_line rows g words = Err what.Words
 
 -- a marker leaves the column before it
@@ -184,7 +205,8 @@ is_marker (first ∷ []) = false
 is_marker (first ∷ second ∷ words) = same second (codes "'MARKER'")
 
 abbrev pub columns_line : List RowLine → Grid → List (List ℕ) → Result Grid What
-columns_line rows g words = if is_marker words then marker_line g words else column_line rows g words
+columns_line rows g words = if is_marker words then marker_line g words
+    else column_line rows g words
 
 -- ---- sets
 
@@ -218,13 +240,18 @@ given with_objective rows s row word = do
   number ← number_at word
   if is_passed with_objective role then Ok s else add_given s row number
 
-abbrev pub given_two : Bool → List RowLine → SetOf Given → List ℕ → List ℕ → List ℕ → List ℕ → Result (SetOf Given) What
-given_two o rows s row word row2 word2 = given o rows s row word >>= λ first. given o rows first row2 word2
+abbrev pub given_two : Bool → List RowLine → SetOf Given → List ℕ → List ℕ → List ℕ → List ℕ
+    → Result (SetOf Given) What
+given_two o rows s row word row2 word2 = given o rows s row word
+    >>= λ first. given o rows first row2 word2
 
--- one or two pairs of row and number, and perhaps a set's name before them; a line of another set is passed over
-abbrev pub given_line : Bool → List RowLine → SetOf Given → List (List ℕ) → Result (SetOf Given) What
+-- one or two pairs of row and number, and perhaps a set's name before them; a line of another
+-- set is passed over
+abbrev pub given_line : Bool → List RowLine → SetOf Given → List (List ℕ)
+    → Result (SetOf Given) What
 given_line o rows s (row ∷ word ∷ []) = given o rows s row word
-given_line o rows s (set ∷ row ∷ word ∷ []) = if is_first_set s.set set then given o rows (with_set s set) row word else Ok s
+given_line o rows s (set ∷ row ∷ word ∷ []) = if is_first_set s.set set
+    then given o rows (with_set s set) row word else Ok s
 given_line o rows s (row ∷ word ∷ row2 ∷ word2 ∷ []) = given_two o rows s row word row2 word2
 given_line o rows s (set ∷ row ∷ word ∷ row2 ∷ word2 ∷ []) =
     if is_first_set s.set set then given_two o rows (with_set s set) row word row2 word2 else Ok s
@@ -266,28 +293,35 @@ bound_at word = do
   Ok number.mantissa
 
 abbrev pub add_card : SetOf Card → List ℕ → Act → ℤ → SetOf Card
-add_card s column a n = record s { given = s.given ++ record { column = column; act = a; number = n } ∷ [] }
+add_card s column a n = record
+    s { given = s.given ++ record { column = column; act = a; number = n } ∷ [] }
 
-abbrev pub number_card : List (List ℕ) → Act → SetOf Card → List ℕ → List ℕ → Result (SetOf Card) What
+abbrev pub number_card : List (List ℕ) → Act → SetOf Card → List ℕ → List ℕ
+    → Result (SetOf Card) What
 number_card columns a s column word = do
   known ← there_or what.UnknownColumn (place_of columns column)
   n ← bound_at word
   Ok (add_card s column a n)
 
 abbrev pub plain_card : List (List ℕ) → Act → SetOf Card → List ℕ → Result (SetOf Card) What
-plain_card columns a s column = there_or what.UnknownColumn (place_of columns column) >>= λ known. Ok (add_card s column a (pos 0))
+plain_card columns a s column = there_or what.UnknownColumn (place_of columns column)
+    >>= λ known. Ok (add_card s column a (pos 0))
 
 -- what follows a kind that takes a number
-abbrev pub number_words : List (List ℕ) → Act → SetOf Card → List (List ℕ) → Result (SetOf Card) What
+abbrev pub number_words : List (List ℕ) → Act → SetOf Card → List (List ℕ)
+    → Result (SetOf Card) What
 number_words columns a s (column ∷ word ∷ []) = number_card columns a s column word
-number_words columns a s (set ∷ column ∷ word ∷ []) = if is_first_set s.set set then number_card columns a (with_set s set) column word else Ok s
+number_words columns a s (set ∷ column ∷ word ∷ []) = if is_first_set s.set set
+    then number_card columns a (with_set s set) column word else Ok s
 number_words columns a s words = Err what.Words
 
 -- what follows another kind; a word behind the column is not looked at
 abbrev pub plain_words : List (List ℕ) → Act → SetOf Card → List (List ℕ) → Result (SetOf Card) What
 plain_words columns a s (column ∷ []) = plain_card columns a s column
-plain_words columns a s (set ∷ column ∷ []) = if is_first_set s.set set then plain_card columns a (with_set s set) column else Ok s
-plain_words columns a s (set ∷ column ∷ unread ∷ []) = if is_first_set s.set set then plain_card columns a (with_set s set) column else Ok s
+plain_words columns a s (set ∷ column ∷ []) = if is_first_set s.set set
+    then plain_card columns a (with_set s set) column else Ok s
+plain_words columns a s (set ∷ column ∷ unread ∷ []) = if is_first_set s.set set
+    then plain_card columns a (with_set s set) column else Ok s
 plain_words columns a s words = Err what.Words
 
 abbrev pub bounds_line : List (List ℕ) → SetOf Card → List (List ℕ) → Result (SetOf Card) What
@@ -304,10 +338,13 @@ data_line Start s words = Err what.Section
 data_line Name s words = Err what.Section
 data_line Objsense s words = sense_line s.sense words >>= λ sense. Ok (record s { sense = sense })
 data_line Rows s words = rows_line s.rows words >>= λ rows. Ok (record s { rows = rows })
-data_line Columns s words = columns_line s.rows s.columns words >>= λ columns. Ok (record s { columns = columns })
+data_line Columns s words = columns_line s.rows s.columns words
+    >>= λ columns. Ok (record s { columns = columns })
 data_line Rhs s words = given_line false s.rows s.rhs words >>= λ rhs. Ok (record s { rhs = rhs })
-data_line Ranges s words = given_line true s.rows s.ranges words >>= λ ranges. Ok (record s { ranges = ranges })
-data_line Bounds s words = bounds_line s.columns.names s.bounds words >>= λ bounds. Ok (record s { bounds = bounds })
+data_line Ranges s words = given_line true s.rows s.ranges words
+    >>= λ ranges. Ok (record s { ranges = ranges })
+data_line Bounds s words = bounds_line s.columns.names s.bounds words
+    >>= λ bounds. Ok (record s { bounds = bounds })
 data_line End s words = Err what.Section
 
 abbrev pub section_of : List ℕ → Option Section
@@ -350,7 +387,9 @@ sections = Name ∷ Objsense ∷ Rows ∷ Columns ∷ Rhs ∷ Ranges ∷ Bounds 
 
 -- the section comes later in the order, and no required one lies between
 abbrev pub may_follow : Section → Section → Bool
-may_follow now next = nat_lt (rank now) (rank next) && list_all (λ p. not (is_required p && nat_lt (rank now) (rank p) && nat_lt (rank p) (rank next))) sections
+may_follow now next = nat_lt (rank now) (rank next)
+    && list_all (λ p. not (is_required p && nat_lt (rank now) (rank p)
+    && nat_lt (rank p) (rank next))) sections
 
 -- OBJSENSE is open, and its word did not come
 abbrev pub lacks_word : Section → Option Sense → Bool
@@ -359,7 +398,8 @@ lacks_word section sense = rank section == rank Objsense && is_none sense
 -- the word behind the section's name is read on an OBJSENSE line alone; all others are passed over
 abbrev pub opened_sense : Section → Option Sense → List (List ℕ) → Result (Option Sense) What
 opened_sense section said [] = Ok said
-opened_sense section said (word ∷ words) = if rank section == rank Objsense then sense_word word else Ok said
+opened_sense section said (word ∷ words) = if rank section == rank Objsense then sense_word word
+    else Ok said
 
 -- a section's name, and the words behind it
 abbrev pub section_line : Said → List ℕ → List (List ℕ) → Result Said What

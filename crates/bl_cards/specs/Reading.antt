@@ -1,10 +1,12 @@
 -- What the lines of a file say together, or the first fault of one.
-use Rattle.std.specs.Prelude.{ℕ, ◌+◌, Bool, true, false, ◌==◌, if◌then◌else◌, List, [], ◌∷◌, Result, Ok, Err}
+use Rattle.std.specs.Prelude.{ℕ, ◌+◌, Bool, true, false, ◌==◌, if◌then◌else◌, List, [], ◌∷◌}
+use Rattle.std.specs.Prelude.{Result, Ok, Err}
 use Rattle.bl_text.specs.Pieces.{is_blank, lines_of, words_of}
 use Rattle.bl_cards.specs.declared.kind.What.{What}
 use Rattle.bl_cards.specs.declared.kind.What.TheVariants as what
 use Rattle.bl_cards.specs.declared.kind.Section.{Section}
-use Rattle.bl_cards.specs.declared.kind.Section.TheVariants.{Start, Name, Objsense, Rows, Columns, Rhs, Ranges, Bounds, End}
+use Rattle.bl_cards.specs.declared.kind.Section.TheVariants.{Start, Name, Objsense, Rows, Columns}
+use Rattle.bl_cards.specs.declared.kind.Section.TheVariants.{Rhs, Ranges, Bounds, End}
 use Rattle.bl_cards.specs.declared.reader.Whole.{Whole}
 use Rattle.bl_cards.specs.Said.{Said, nothing_said, ◌>>=◌}
 use Rattle.bl_cards.specs.Lines.{data_line, section_line}
@@ -40,9 +42,11 @@ abbrev pub at_line : {A : Type 0} → ℕ → Result A What → Result A Fault
 at_line n (Ok x) = Ok x
 at_line n (Err w) = Err (record { line = n; what = w })
 
--- n lines were taken, and these are left: all that was said at the ENDATA line, or the first fault. Nothing after that line is read
+-- n lines were taken, and these are left: all that was said at the ENDATA line, or the first
+-- fault. Nothing after that line is read
 unfoldable pub said_from : ℕ → Said → List (List ℕ) → Result Whole Fault
-said_from n s [] = if is_end s.section then Ok (record { said = s; last = n }) else Err (record { line = n + 1; what = what.NoEnd })
+said_from n s [] = if is_end s.section then Ok (record { said = s; last = n })
+    else Err (record { line = n + 1; what = what.NoEnd })
 said_from n s (line ∷ lines) =
     if is_end s.section then Ok (record { said = s; last = n })
     else at_line (n + 1) (after_line s line) >>= λ t. said_from (n + 1) t lines

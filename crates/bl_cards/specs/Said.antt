@@ -1,5 +1,6 @@
 -- What the lines of a file have said so far: lists in file order, with nothing worked out.
-use Rattle.std.specs.Prelude.{◌≡◌, ℕ, suc, option_map, Bool, true, false, ◌==◌, List, [], ◌∷◌, Option, Some, None, Result, Ok, Err, ℤ, if◌then◌else◌}
+use Rattle.std.specs.Prelude.{◌≡◌, ℕ, suc, option_map, Bool, true, false, ◌==◌, List, [], ◌∷◌}
+use Rattle.std.specs.Prelude.{Option, Some, None, Result, Ok, Err, ℤ, if◌then◌else◌}
 use Rattle.bl_num.specs.declared.Decimal.{Decimal}
 use Rattle.bl_problem.specs.declared.problem.Sense.{Sense}
 use Rattle.bl_cards.specs.declared.kind.What.{What}

@@ -1,9 +1,11 @@
 -- A file as sections that are lists of data lines.
-use Rattle.std.specs.Prelude.{◌≡◌, ℕ, Bool, true, false, ◌==◌, if◌then◌else◌, List, [], ◌∷◌, ◌++◌, map, filter, Option, Some, None, Result, Ok}
+use Rattle.std.specs.Prelude.{◌≡◌, ℕ, Bool, true, false, ◌==◌, if◌then◌else◌, List, [], ◌∷◌, ◌++◌}
+use Rattle.std.specs.Prelude.{map, filter, Option, Some, None, Result, Ok}
 use Rattle.bl_text.specs.Pieces.{is_blank, words_of}
 use Rattle.bl_cards.specs.declared.kind.What.{What}
 use Rattle.bl_cards.specs.declared.kind.Section.{Section}
-use Rattle.bl_cards.specs.declared.kind.Section.TheVariants.{Start, Rows, Columns, Rhs, Ranges, Bounds}
+use Rattle.bl_cards.specs.declared.kind.Section.TheVariants.{Start, Rows, Columns, Rhs, Ranges}
+use Rattle.bl_cards.specs.declared.kind.Section.TheVariants.{Bounds}
 use Rattle.bl_cards.specs.Said.{Said, no_columns, no_set, ◌>>=◌}
 use Rattle.bl_cards.specs.Lines.{section_of, rank, rows_line, columns_line, given_line, bounds_line}
 use Rattle.bl_cards.specs.Reading.{is_end}
@@ -42,7 +44,8 @@ abbrev pub data_lines : Section → List (List ℕ) → List DataLine
 data_lines now [] = []
 data_lines now (line ∷ lines) =
     if is_end now then []
-    else data_of now (is_data line) (words_said line) ++ data_lines (section_behind now (is_data line) (words_said line)) lines
+    else data_of now (is_data line) (words_said line)
+    ++ data_lines (section_behind now (is_data line) (words_said line)) lines
 
 abbrev pub in_section : Section → List DataLine → List (List (List ℕ))
 in_section section lines = map (λ l. l.words) (filter (λ l. rank l.section == rank section) lines)
@@ -52,7 +55,8 @@ abbrev pub lines_in : Section → List (List ℕ) → List (List (List ℕ))
 lines_in section lines = in_section section (data_lines Start lines)
 
 -- lines taken in turn: what they say together, or the first rule that one breaks
-abbrev pub in_turn : {A : Type 0} → (A → List (List ℕ) → Result A What) → A → List (List (List ℕ)) → Result A What
+abbrev pub in_turn : {A : Type 0} → (A → List (List ℕ) → Result A What) → A → List (List (List ℕ))
+    → Result A What
 in_turn take said [] = Ok said
 in_turn take said (words ∷ lines) = take said words >>= λ next. in_turn take next lines
 
@@ -62,7 +66,8 @@ second_word [] = []
 second_word (first ∷ []) = []
 second_word (first ∷ second ∷ words) = second
 
--- each section says what its own data lines say in turn: ROWS alone the rows, COLUMNS the columns and the numbers in those rows, and so on
+-- each section says what its own data lines say in turn: ROWS alone the rows, COLUMNS the
+-- columns and the numbers in those rows, and so on
 pub record IsReadBySections (lines : List (List ℕ)) (s : Said) : Type 0 where
   pub rows : in_turn rows_line [] (lines_in Rows lines) ≡ Ok s.rows
   pub names : map (λ r. r.name) s.rows ≡ map second_word (lines_in Rows lines)

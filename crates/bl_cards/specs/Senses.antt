@@ -1,5 +1,6 @@
 -- What the lines of OBJSENSE ask for: the least or the greatest value.
-use Rattle.std.specs.Prelude.{◌≡◌, ℕ, ◌+◌, Bool, true, false, ◌==◌, if◌then◌else◌, List, [], ◌∷◌, ◌++◌, length, Option, Some, None, codes}
+use Rattle.std.specs.Prelude.{◌≡◌, ℕ, ◌+◌, Bool, true, false, ◌==◌, if◌then◌else◌, List, [], ◌∷◌}
+use Rattle.std.specs.Prelude.{◌++◌, length, Option, Some, None, codes}
 use Rattle.bl_problem.specs.declared.problem.Sense.{Sense}
 use Rattle.bl_cards.specs.declared.kind.Section.{Section}
 use Rattle.bl_cards.specs.declared.kind.Section.TheVariants.{Start, Objsense}
@@ -24,7 +25,8 @@ abbrev pub sense_words : Section → List (List ℕ) → List (List ℕ)
 sense_words now [] = []
 sense_words now (line ∷ lines) =
     if is_end now then []
-    else sense_words_on now (is_data line) (words_said line) ++ sense_words (section_behind now (is_data line) (words_said line)) lines
+    else sense_words_on now (is_data line) (words_said line)
+    ++ sense_words (section_behind now (is_data line) (words_said line)) lines
 
 abbrev pub opening_on : Bool → List (List ℕ) → ℕ
 opening_on true words = 0
@@ -36,7 +38,8 @@ abbrev pub openings : Section → List (List ℕ) → ℕ
 openings now [] = 0
 openings now (line ∷ lines) =
     if is_end now then 0
-    else opening_on (is_data line) (words_said line) + openings (section_behind now (is_data line) (words_said line)) lines
+    else opening_on (is_data line) (words_said line)
+    + openings (section_behind now (is_data line) (words_said line)) lines
 
 -- no word asks for nothing, and one word for the sense that it names
 abbrev pub AsksFor : List (List ℕ) → Option Sense → Type 0

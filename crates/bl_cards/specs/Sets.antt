@@ -1,5 +1,7 @@
--- What the lines of RHS, RANGES and BOUNDS give: those of the first set that is named, and those that name none.
-use Rattle.std.specs.Prelude.{◌≡◌, ℕ, Bool, true, false, if◌then◌else◌, List, [], ◌∷◌, ◌++◌, filter, Option, Some, None, Result, Ok, Err, ℤ, pos}
+-- What the lines of RHS, RANGES and BOUNDS give: those of the first set that is named, and those
+-- that name none.
+use Rattle.std.specs.Prelude.{◌≡◌, ℕ, Bool, true, false, if◌then◌else◌, List, [], ◌∷◌, ◌++◌}
+use Rattle.std.specs.Prelude.{filter, Option, Some, None, Result, Ok, Err, ℤ, pos}
 use Rattle.std.specs.List.{flat_map}
 use Rattle.bl_cards.specs.declared.kind.What.{What}
 use Rattle.bl_cards.specs.declared.kind.Role.{Role}
@@ -17,7 +19,8 @@ set_or None other = other
 set_or (Some first) other = Some first
 
 -- the first set that a line names
-abbrev pub first_set : (List (List ℕ) → Option (List ℕ)) → Option (List ℕ) → List (List (List ℕ)) → Option (List ℕ)
+abbrev pub first_set : (List (List ℕ) → Option (List ℕ)) → Option (List ℕ) → List (List (List ℕ))
+    → Option (List ℕ)
 first_set set_in now [] = now
 first_set set_in now (words ∷ lines) = first_set set_in (set_or now (set_in words)) lines
 
@@ -27,8 +30,10 @@ is_of first None = true
 is_of None (Some name) = true
 is_of (Some first) (Some name) = same name first
 
-abbrev pub of_first_set : (List (List ℕ) → Option (List ℕ)) → List (List (List ℕ)) → List (List (List ℕ))
-of_first_set set_in lines = filter (λ words. is_of (first_set set_in None lines) (set_in words)) lines
+abbrev pub of_first_set : (List (List ℕ) → Option (List ℕ)) → List (List (List ℕ))
+    → List (List (List ℕ))
+of_first_set set_in lines = filter (λ words. is_of (first_set set_in None lines) (set_in words))
+    lines
 
 -- ---- RHS and RANGES
 
@@ -39,14 +44,17 @@ set_in_pairs words = None
 
 abbrev pub given_on : Bool → Option Role → List ℕ → List ℕ → List Given
 given_on with_objective None row word = []
-given_on with_objective (Some role) row word = if is_passed with_objective role then [] else record { row = row; number = number_or_zero (number_at word) } ∷ []
+given_on with_objective (Some role) row word = if is_passed with_objective role then []
+    else record { row = row; number = number_or_zero (number_at word) } ∷ []
 
 -- one or two pairs of a row and a number
 abbrev pub pairs_on : Bool → List RowLine → List (List ℕ) → List Given
 pairs_on o rows (row ∷ word ∷ []) = given_on o (role_of rows row) row word
 pairs_on o rows (set ∷ row ∷ word ∷ []) = given_on o (role_of rows row) row word
-pairs_on o rows (row ∷ word ∷ row2 ∷ word2 ∷ []) = given_on o (role_of rows row) row word ++ given_on o (role_of rows row2) row2 word2
-pairs_on o rows (set ∷ row ∷ word ∷ row2 ∷ word2 ∷ []) = given_on o (role_of rows row) row word ++ given_on o (role_of rows row2) row2 word2
+pairs_on o rows (row ∷ word ∷ row2 ∷ word2 ∷ []) = given_on o (role_of rows row) row word
+    ++ given_on o (role_of rows row2) row2 word2
+pairs_on o rows (set ∷ row ∷ word ∷ row2 ∷ word2 ∷ []) = given_on o (role_of rows row) row word
+    ++ given_on o (role_of rows row2) row2 word2
 pairs_on o rows words = []
 
 -- ---- BOUNDS
@@ -92,6 +100,8 @@ cards_on (kind ∷ words) = card_by (act_of kind) words
 -- ---- the sections
 
 pub record AreGivenByLines (lines : List (List ℕ)) (s : Said) : Type 0 where
-  pub rhs : s.rhs.given ≡ flat_map (pairs_on false s.rows) (of_first_set set_in_pairs (lines_in Rhs lines))
-  pub ranges : s.ranges.given ≡ flat_map (pairs_on true s.rows) (of_first_set set_in_pairs (lines_in Ranges lines))
+  pub rhs : s.rhs.given ≡ flat_map (pairs_on false s.rows)
+      (of_first_set set_in_pairs (lines_in Rhs lines))
+  pub ranges : s.ranges.given ≡ flat_map (pairs_on true s.rows)
+      (of_first_set set_in_pairs (lines_in Ranges lines))
   pub cards : s.bounds.given ≡ flat_map cards_on (of_first_set set_in_card (lines_in Bounds lines))

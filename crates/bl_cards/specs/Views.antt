@@ -1,5 +1,6 @@
 -- What contracts see of the reader's parts.
-use Rattle.std.specs.Prelude.{◌≡◌, ℕ, List, [], ◌∷◌, Option, Some, None, Result, Ok, Err, map, ◌-◌, ◌<◌, ◌≤◌, ◌==◌, length, filter, All, Bool}
+use Rattle.std.specs.Prelude.{◌≡◌, ℕ, List, [], ◌∷◌, Option, Some, None, Result, Ok, Err, map}
+use Rattle.std.specs.Prelude.{◌-◌, ◌<◌, ◌≤◌, ◌==◌, length, filter, All, Bool}
 use Rattle.bl_num.specs.declared.Decimal.{Decimal}
 use Rattle.bl_cards.specs.declared.kind.What.{What}
 use Rattle.bl_cards.specs.declared.fault.LineFault.{LineFault}
@@ -14,7 +15,8 @@ use Rattle.bl_cards.specs.Said.{RowLine, Cell, Given, Card}
 use Rattle.bl_cards.specs.declared.columns.RowCell.{RowCell}
 use Rattle.bl_cards.specs.declared.bounds.BoundCard.{BoundCard}
 
--- A call gave what the definition gives: the value then stands for what was said, or the first broken rule is told, unless memory ran out.
+-- A call gave what the definition gives: the value then stands for what was said, or the first
+-- broken rule is told, unless memory ran out.
 abbrev pub Follows : {U A : Type 0} → Result U LineFault → Result A What → A → Type 0
 Follows (Ok u) said new = said ≡ Ok new
 Follows (Err stop.Memory) said new = Unit {0}
@@ -52,7 +54,8 @@ abbrev pub rows_in : List Cell → ℕ → List (List ℕ)
 rows_in cells column = map (λ c. c.row) (filter (λ c. c.column == column) cells)
 
 -- what the reader keeps beside columns and cells: the rows of the last column, by name
-pub record IsGrid (names : List (List ℕ)) (whole : List Bool) (cells : List Cell) (here : List (List ℕ)) : Type 0 where
+pub record IsGrid (names : List (List ℕ)) (whole : List Bool) (cells : List Cell)
+    (here : List (List ℕ)) : Type 0 where
   pub as_many : length whole ≡ length names
   pub few : length names ≤ 1000
   pub within : All (λ c. c.column < length names) cells
@@ -67,7 +70,8 @@ set_name None = None
 set_name (Some name) = Some name.now
 
 -- what the reader keeps beside the rows
-pub record AreKept (names : List (List ℕ)) (roles : List Role) (limited : ℕ) (had_objective : Bool) : Type 0 where
+pub record AreKept (names : List (List ℕ)) (roles : List Role) (limited : ℕ)
+    (had_objective : Bool) : Type 0 where
   pub as_many : length roles ≡ length names
   pub limited_is : limited ≡ count_limited (row_lines names roles)
   pub objective_is : had_objective ≡ has_objective (row_lines names roles)

@@ -1,7 +1,9 @@
 //! The BOUNDS section.
 ghost use Rattle.std.specs.Prelude.{◌≡◌, ◌<◌, ◌^◌, map, [], ◌∷◌, unsigned_abs, IfOk};
 ghost use Rattle.bl_cards.specs.Said.{no_set};
-ghost use Rattle.bl_cards.specs.Lines.{act_of, has_number, bound_at, number_card, plain_card, number_words, plain_words, bounds_line, with_set, is_first_set};
+ghost use Rattle.bl_cards.specs.Lines.{act_of, has_number, bound_at, number_card, plain_card};
+ghost use Rattle.bl_cards.specs.Lines.{number_words, plain_words, bounds_line, with_set};
+ghost use Rattle.bl_cards.specs.Lines.{is_first_set};
 ghost use Rattle.bl_cards.specs.Views.{Follows, Gives, card_of};
 
 use crate::fault::LineFault;
@@ -114,7 +116,8 @@ impl<'a> Bounds<'a> {
         column: &'a [u8],
         word: &[u8],
     ) -> Result<(), LineFault>
-        ensures { Follows result (number_card columns.now act self.old column.now word.now) self.new }
+        ensures { Follows result (number_card columns.now act self.old column.now word.now)
+            self.new }
     {
         if columns.find(column).is_none() {
             return Err(LineFault::Broken(What::UnknownColumn));
@@ -159,7 +162,8 @@ impl<'a> Bounds<'a> {
         act: Act,
         words: &[&'a [u8]],
     ) -> Result<(), LineFault>
-        ensures { Follows result (number_words columns.now act self.old (map (λ w. w.now) words.now)) self.new }
+        ensures { Follows result (number_words columns.now act self.old
+            (map (λ w. w.now) words.now)) self.new }
     {
         match words {
             [column, word] => self.number_card(columns, act, column, word),
@@ -181,7 +185,8 @@ impl<'a> Bounds<'a> {
         act: Act,
         words: &[&'a [u8]],
     ) -> Result<(), LineFault>
-        ensures { Follows result (plain_words columns.now act self.old (map (λ w. w.now) words.now)) self.new }
+        ensures { Follows result (plain_words columns.now act self.old
+            (map (λ w. w.now) words.now)) self.new }
     {
         match words {
             [column] => self.plain_card(columns, act, column),
@@ -198,7 +203,8 @@ impl<'a> Bounds<'a> {
 
     /// Takes the words of a line of the section.
     pub(crate) fn line(&mut self, columns: &Names<'a>, words: &[&'a [u8]]) -> Result<(), LineFault>
-        ensures { Follows result (bounds_line columns.now self.old (map (λ w. w.now) words.now)) self.new }
+        ensures { Follows result (bounds_line columns.now self.old (map (λ w. w.now) words.now))
+            self.new }
     {
         match words {
             [kind, words @ ..] => match act_of(kind) {

@@ -1,7 +1,9 @@
 //! The COLUMNS section.
 ghost use Rattle.std.specs.Prelude.{◌≡◌, map, ◌<◌, length, OnOk, [], ◌∷◌};
 ghost use Rattle.bl_cards.specs.Said.{no_columns};
-ghost use Rattle.bl_cards.specs.Lines.{at_column, add_cell, put_cell, cell, cell_too, column_cell, column_line, columns_line, marker, marker_line, is_marker, is_extra};
+ghost use Rattle.bl_cards.specs.Lines.{at_column, add_cell, put_cell, cell, cell_too};
+ghost use Rattle.bl_cards.specs.Lines.{column_cell, column_line, columns_line, marker};
+ghost use Rattle.bl_cards.specs.Lines.{marker_line, is_marker, is_extra};
 ghost use Rattle.bl_cards.specs.Views.{Follows, cell_of};
 
 use crate::fault::LineFault;
@@ -41,7 +43,14 @@ impl<'a> Model for Columns<'a> {
 
     ghost Value = { Grid };
 
-    ghost view = { λ c. record { names = c.names; whole = c.whole.items; cells = map cell_of c.cells.items; is_open = c.is_open; in_stretch = c.in_stretch } };
+    ghost view = { λ c. record {
+      names = c.names;
+      whole = c.whole.items;
+      cells =
+          map cell_of c.cells.items;
+      is_open = c.is_open;
+      in_stretch = c.in_stretch;
+    } };
 
     ghost invariant = { λ c. IsGrid c.names c.whole.items (map cell_of c.cells.items) c.here };
 }
@@ -167,7 +176,8 @@ impl<'a> Columns<'a> {
         row: &'a [u8],
         word: &[u8],
     ) -> Result<(), LineFault>
-        ensures said { Follows result (column_cell rows.now self.old name.now row.now word.now) self.new }
+        ensures said { Follows result (column_cell rows.now self.old name.now row.now word.now)
+            self.new }
         ensures some { OnOk result (0 < length self.new.names) }
     {
         match self.start(name) {
@@ -184,7 +194,9 @@ impl<'a> Columns<'a> {
         first: (&'a [u8], &[u8]),
         second: (&'a [u8], &[u8]),
     ) -> Result<(), LineFault>
-        ensures { Follows result (cell_too rows.now (column_cell rows.now self.old name.now first.entry.0.now first.entry.1.now) second.entry.0.now second.entry.1.now) self.new }
+        ensures { Follows result (cell_too rows.now
+            (column_cell rows.now self.old name.now first.entry.0.now first.entry.1.now)
+            second.entry.0.now second.entry.1.now) self.new }
     {
         match self.column_cell(rows, name, first.0, first.1) {
             Ok(()) => self.cell(rows, second.0, second.1),
@@ -194,7 +206,8 @@ impl<'a> Columns<'a> {
 
     /// Takes a column, and one or two pairs of a row and a number.
     fn column_line(&mut self, rows: &Rows<'a>, words: &[&'a [u8]]) -> Result<(), LineFault>
-        ensures { Follows result (column_line rows.now self.old (map (λ w. w.now) words.now)) self.new }
+        ensures { Follows result (column_line rows.now self.old (map (λ w. w.now) words.now))
+            self.new }
     {
         match words {
             [name, row, word] => self.column_cell(rows, name, row, word),
@@ -223,7 +236,8 @@ impl<'a> Columns<'a> {
 
     /// Takes the words of a line of the section.
     pub(crate) fn line(&mut self, rows: &Rows<'a>, words: &[&'a [u8]]) -> Result<(), LineFault>
-        ensures { Follows result (columns_line rows.now self.old (map (λ w. w.now) words.now)) self.new }
+        ensures { Follows result (columns_line rows.now self.old (map (λ w. w.now) words.now))
+            self.new }
     {
         if !is_marker(words) {
             return self.column_line(rows, words);

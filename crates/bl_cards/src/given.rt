@@ -1,7 +1,8 @@
 //! The RHS and RANGES sections.
 ghost use Rattle.std.specs.Prelude.{◌≡◌, map, [], ◌∷◌, ◌++◌, OnOk, OnErr, false};
 ghost use Rattle.bl_cards.specs.Said.{no_set};
-ghost use Rattle.bl_cards.specs.Lines.{has_given, add_given, given, given_two, given_line, with_set, is_first_set, is_passed, given_for};
+ghost use Rattle.bl_cards.specs.Lines.{has_given, add_given, given, given_two, given_line};
+ghost use Rattle.bl_cards.specs.Lines.{with_set, is_first_set, is_passed, given_for};
 ghost use Rattle.bl_cards.specs.Views.{Follows};
 
 use crate::fault::LineFault;
@@ -61,7 +62,8 @@ impl<'a> Numbers<'a> {
     /// Puts the number of a row that has none.
     pub fn push(&mut self, row: &'a [u8], number: Decimal) -> Result<(), AllocError>
         requires { has_given self.old row.now ≡ false }
-        ensures ok { OnOk result (self.new ≡ self.old ++ record { row = row.now; number = number } ∷ []) }
+        ensures ok { OnOk result (self.new ≡ self.old ++ record { row = row.now; number = number }
+            ∷ []) }
         ensures err { OnErr result (self.new ≡ self.old) }
     {
         self.numbers.reserve(1)?;
@@ -150,7 +152,8 @@ impl<'a> RowNumbers<'a> {
         row: &'a [u8],
         word: &[u8],
     ) -> Result<(), LineFault>
-        ensures { Follows result (given with_objective rows.now self.old row.now word.now) self.new }
+        ensures { Follows result (given with_objective rows.now self.old row.now word.now)
+            self.new }
     {
         let Some(role) = rows.role(row) else {
             return Err(LineFault::Broken(What::UnknownRow));
@@ -174,7 +177,8 @@ impl<'a> RowNumbers<'a> {
         first: (&'a [u8], &[u8]),
         second: (&'a [u8], &[u8]),
     ) -> Result<(), LineFault>
-        ensures { Follows result (given_two with_objective rows.now self.old first.entry.0.now first.entry.1.now second.entry.0.now second.entry.1.now) self.new }
+        ensures { Follows result (given_two with_objective rows.now self.old first.entry.0.now
+            first.entry.1.now second.entry.0.now second.entry.1.now) self.new }
     {
         match self.take(with_objective, rows, first.0, first.1) {
             Ok(()) => self.take(with_objective, rows, second.0, second.1),
@@ -182,14 +186,16 @@ impl<'a> RowNumbers<'a> {
         }
     }
 
-    /// Takes the words of a line of the section. In RANGES numbers on the objective are passed over, too.
+    /// Takes the words of a line of the section. In RANGES numbers on the objective are passed
+    /// over, too.
     pub(crate) fn line(
         &mut self,
         with_objective: bool,
         rows: &Rows<'a>,
         words: &[&'a [u8]],
     ) -> Result<(), LineFault>
-        ensures { Follows result (given_line with_objective rows.now self.old (map (λ w. w.now) words.now)) self.new }
+        ensures { Follows result (given_line with_objective rows.now self.old
+            (map (λ w. w.now) words.now)) self.new }
     {
         match words {
             [row, word] => self.take(with_objective, rows, row, word),

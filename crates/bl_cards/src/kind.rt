@@ -3,9 +3,11 @@
 /// What is wrong with a line, or at the ENDATA line with the whole.
 #[derive(Clone, Copy, Debug, PartialEq, Eq)]
 pub enum What {
-    /// A section line that is unknown, repeated or out of order, or a data line where no section takes one.
+    /// A section line that is unknown, repeated or out of order, or a data line where no section
+    /// takes one.
     Section,
-    /// Another number of words than the section's lines have, an unknown kind of row or bound, or an unknown or missing sense.
+    /// Another number of words than the section's lines have, an unknown kind of row or bound,
+    /// or an unknown or missing sense.
     Words,
     /// A number that is not spelled as one.
     Number,
@@ -47,7 +49,8 @@ pub enum Section {
     End,
 }
 
-/// What a row is for: the first row of kind N is the objective, and the numbers of further ones are passed over.
+/// What a row is for: the first row of kind N is the objective, and the numbers of further ones
+/// are passed over.
 #[derive(Clone, Copy, Debug, PartialEq, Eq)]
 pub enum Role {
     Objective,

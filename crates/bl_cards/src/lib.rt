@@ -1,15 +1,18 @@
-//! What the lines of an MPS file say.
+//! Formats: what the lines of an MPS file say.
 //!
-//! A `Reader` takes the lines of a file in turn and keeps what they say: the sense of the objective, rows, columns and
-//! their numbers, right sides, ranges and bound cards. Which problem that means is said by the crate above.
+//! A `Reader` takes the lines of a file in turn and keeps what they say: the sense of the
+//! objective, rows, columns and their numbers, right sides, ranges and bound cards. Which
+//! problem that means is said by the crate above.
 //!
-//! `specs/Said.antt` has what was said, as lists in file order with nothing worked out, and is what contracts see of a
-//! `Reader`. `specs/Lines.antt` says what each line adds, or the first rule that it breaks, and `specs/Reading.antt`
-//! what the lines of a file come to. `specs/Laws.antt` says it of whole files, in the lines' own words.
+//! `specs/Said.antt` has what was said, as lists in file order with nothing worked out, and is
+//! what contracts see of a `Reader`. `specs/Lines.antt` says what each line adds, or the first
+//! rule that it breaks, and `specs/Reading.antt` what the lines of a file come to.
+//! `specs/Laws.antt` says it of whole files, in the lines' own words.
 //!
-//! `Reader::file` gives exactly what the lines up to the ENDATA line say, or exactly the first fault of a line. What it
-//! gives is coherent (`specs/Coherence.antt`): names can be names and differ, numbers are within their limits, and those
-//! of COLUMNS come column by column, at most one for a column and row.
+//! `Reader::file` gives exactly what the lines up to the ENDATA line say, or exactly the first
+//! fault of a line. What it gives is coherent (`specs/Coherence.antt`): names can be names and
+//! differ, numbers are within their limits, and those of COLUMNS come column by column, at most
+//! one for a column and row.
 #![tactic(auto)]
 
 mod bounds;
@@ -41,8 +44,8 @@ mod tests {
     use super::*;
     use std::alloc::Global;
 
-    /// What the table looks at: the line of the end, or the fault and its line; then how many rows, columns, numbers and
-    /// cards were said, and the mantissa of the right side of R.
+    /// What the table looks at: the line of the end, or the fault and its line; then how many
+    /// rows, columns, numbers and cards were said, and the mantissa of the right side of R.
     type Shape = (u32, Option<What>, [usize; 4], Option<i128>);
 
     fn shape(alloc: Global, text: &[u8]) -> Option<Shape> {

@@ -1,5 +1,6 @@
 //! Names that differ, each with its number.
-ghost use Rattle.std.specs.Prelude.{◌≡◌, ◌<◌, [], ◌∷◌, ◌++◌, None, length, OnOk, OnErr, IfSome, slice_index_or};
+ghost use Rattle.std.specs.Prelude.{◌≡◌, ◌<◌, [], ◌∷◌, ◌++◌, None, length, OnOk, OnErr, IfSome};
+ghost use Rattle.std.specs.Prelude.{slice_index_or};
 ghost use Rattle.bl_cards.specs.Said.{place_of, Differ};
 
 use crate::hashing::FileHash;

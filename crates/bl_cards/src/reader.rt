@@ -40,7 +40,16 @@ impl<'a> Model for Reader<'a> {
 
     ghost Value = { Said };
 
-    ghost view = { λ r. record { section = r.section; sense = r.sense; rows = r.rows; columns = r.columns; rhs = r.rhs; ranges = r.ranges; bounds = r.bounds } };
+    ghost view = { λ r. record {
+      section = r.section;
+      sense = r.sense;
+      rows = r.rows;
+      columns =
+          r.columns;
+      rhs = r.rhs;
+      ranges = r.ranges;
+      bounds = r.bounds;
+    } };
 }
 
 /// What a whole file said, and the number of its ENDATA line, counted from 1.
@@ -78,7 +87,8 @@ impl<'a> Reader<'a> {
         }
     }
 
-    /// What the file asks for: the least or the greatest value of its objective, and the least without OBJSENSE.
+    /// What the file asks for: the least or the greatest value of its objective, and the least
+    /// without OBJSENSE.
     pub fn sense(&self) -> Sense
         ensures { result ≡ sense_or_min self.now.sense }
     {
@@ -129,7 +139,8 @@ impl<'a> Reader<'a> {
 
     /// Takes the words of a line of OBJSENSE.
     fn sense_line(&mut self, words: &[&'a [u8]]) -> Result<(), LineFault>
-        ensures { Follows result (data_line Objsense self.old (map (λ w. w.now) words.now)) self.new }
+        ensures { Follows result (data_line Objsense self.old (map (λ w. w.now) words.now))
+            self.new }
     {
         match sense_line(self.sense, words) {
             Ok(sense) => {
@@ -142,7 +153,8 @@ impl<'a> Reader<'a> {
 
     /// Takes the words of a data line of the section that is open.
     fn data_line(&mut self, words: &[&'a [u8]]) -> Result<(), LineFault>
-        ensures { Follows result (data_line self.old.section self.old (map (λ w. w.now) words.now)) self.new }
+        ensures { Follows result (data_line self.old.section self.old
+            (map (λ w. w.now) words.now)) self.new }
     {
         match self.section {
             Section::Start | Section::Name | Section::End => Err(LineFault::Broken(What::Section)),
@@ -155,9 +167,11 @@ impl<'a> Reader<'a> {
         }
     }
 
-    /// Opens the section that a section line names, and takes the sense that an OBJSENSE line gives.
+    /// Opens the section that a section line names, and takes the sense that an OBJSENSE line
+    /// gives.
     fn section_line(&mut self, name: &[u8], words: &[&'a [u8]]) -> Result<(), LineFault>
-        ensures { Follows result (section_line self.old name.now (map (λ w. w.now) words.now)) self.new }
+        ensures { Follows result (section_line self.old name.now (map (λ w. w.now) words.now))
+            self.new }
     {
         let Some(next) = section_of(name) else {
             return Err(LineFault::Broken(What::Section));
@@ -208,9 +222,9 @@ impl<'a> Reader<'a> {
         }
     }
 
-    /// Takes the lines of a file of fewer than 2^32 - 1 bytes, up to the ENDATA line or to the first fault. `At` tells
-    /// the first fault and its line, and comes exactly where a line breaks a rule or there is no ENDATA line; `Memory`
-    /// comes only for want of memory.
+    /// Takes the lines of a file of fewer than 2^32 - 1 bytes, up to the ENDATA line or to the
+    /// first fault. `At` tells the first fault and its line, and comes exactly where a line
+    /// breaks a rule or there is no ENDATA line; `Memory` comes only for want of memory.
     pub fn file(mut self, alloc: Global, bytes: &'a [u8]) -> Result<Whole<'a>, ModelFault>
         requires { length bytes.now + 1 < 2 ^ 32 }
         ensures said { Reads result (said_from 0 self.entry (lines_of bytes.now)) }

@@ -1,7 +1,10 @@
 //! The ROWS section.
-ghost use Rattle.std.specs.Prelude.{◌≡◌, map, [], ◌∷◌, ◌++◌, None, length, OnOk, OnErr, slice_index_or, ◌<◌, true, nat_le, if◌then◌else◌, is_some, IfSome};
+ghost use Rattle.std.specs.Prelude.{◌≡◌, map, [], ◌∷◌, ◌++◌, None, length, OnOk, OnErr};
+ghost use Rattle.std.specs.Prelude.{slice_index_or, ◌<◌, true, nat_le, if◌then◌else◌, is_some};
+ghost use Rattle.std.specs.Prelude.{IfSome};
 ghost use Rattle.bl_cards.specs.Said.{RowLine};
-ghost use Rattle.bl_cards.specs.Lines.{role_of, role_for, rows_line, is_limited, is_objective, has_objective, count_limited, objective_in};
+ghost use Rattle.bl_cards.specs.Lines.{role_of, role_for, rows_line, is_limited, is_objective};
+ghost use Rattle.bl_cards.specs.Lines.{has_objective, count_limited, objective_in};
 ghost use Rattle.bl_cards.specs.Views.{Follows};
 
 use crate::fault::LineFault;
@@ -129,7 +132,8 @@ impl<'a> Rows<'a> {
     pub fn objective(&self) -> Option<usize>
         ensures test { is_some result ≡ has_objective self.now }
         ensures place { IfSome result (λ place. place < length self.now) }
-        ensures name { IfSome result (λ place. (d : RowLine) → (slice_index_or self.now place d).name ≡ objective_in self.now) }
+        ensures name { IfSome result (λ place. (d : RowLine)
+            → (slice_index_or self.now place d).name ≡ objective_in self.now) }
     {
         for place in 0..self.len() {
             if is_objective(self.role_at(place)) {
@@ -157,7 +161,8 @@ impl<'a> Rows<'a> {
     fn push(&mut self, name: &'a [u8], role: Role) -> Result<(), AllocError>
         requires new { role_of self.old name.now ≡ None }
         requires few { is_limited role ≡ true → count_limited self.old < 1000 }
-        ensures ok { OnOk result (self.new ≡ self.old ++ record { name = name.now; role = role } ∷ []) }
+        ensures ok { OnOk result (self.new ≡ self.old ++ record { name = name.now; role = role }
+            ∷ []) }
         ensures err { OnErr result (self.new ≡ self.old) }
     {
         self.roles.reserve(1)?;

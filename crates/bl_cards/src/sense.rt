@@ -1,6 +1,7 @@
 //! The OBJSENSE section.
 ghost use Rattle.std.specs.Prelude.{◌≡◌, map};
-ghost use Rattle.bl_cards.specs.Lines.{sense_of, sense_word, sense_line, sense_or_min, lacks_word, opened_sense};
+ghost use Rattle.bl_cards.specs.Lines.{sense_of, sense_word, sense_line, sense_or_min};
+ghost use Rattle.bl_cards.specs.Lines.{lacks_word, opened_sense};
 ghost use Rattle.bl_cards.specs.Views.{Gives};
 
 use crate::fault::LineFault;

@@ -1,5 +1,6 @@
 -- The problem of a number.
-use Rattle.std.specs.Prelude.{◌+◌, ◌*◌, ◌/◌, ◌%◌, ◌==◌, ℕ, zero, suc, not, List, [], ◌∷◌, map, filter, codes, Some, None, pos, neg_ℤ, sum_by}
+use Rattle.std.specs.Prelude.{◌+◌, ◌*◌, ◌/◌, ◌%◌, ◌==◌, ℕ, zero, suc, not, List, [], ◌∷◌, map}
+use Rattle.std.specs.Prelude.{filter, codes, Some, None, pos, neg_ℤ, sum_by}
 use Rattle.std.specs.List.{range_with_len}
 use Rattle.bl_problem.specs.declared.problem.Term.{Term}
 use Rattle.bl_problem.specs.declared.problem.Column.{Column}
@@ -22,11 +23,18 @@ draw start k n = state start k / 65536 % n
 
 -- a letter and four digits
 abbrev pub numbered : ℕ → ℕ → List ℕ
-numbered letter n = letter ∷ (48 + n / 1000 % 10) ∷ (48 + n / 100 % 10) ∷ (48 + n / 10 % 10) ∷ (48 + n % 10) ∷ []
+numbered letter n = letter ∷ (48 + n / 1000 % 10) ∷ (48 + n / 100 % 10) ∷ (48 + n / 10 % 10)
+    ∷ (48 + n % 10) ∷ []
 
 -- column j: its cost is the negative of a number from 1 to 100
 abbrev pub column : ℕ → ℕ → Column
-column start j = record { name = numbered 67 (j + 1); low = pos 0; high = pos 1; cost = neg_ℤ (pos (1 + draw start (j + 1) 100)) }
+column start j = record {
+  name = numbered 67 (j + 1);
+  low = pos 0;
+  high = pos 1;
+  cost =
+      neg_ℤ (pos (1 + draw start (j + 1) 100));
+}
 
 -- ---- rows, each drawn from the state s before it
 
@@ -50,7 +58,13 @@ row_sum s n = sum_by (coefficient s) (range_with_len 0 n)
 
 -- row i over n columns: at most half the sum of its coefficients
 abbrev pub row_drawn : ℕ → ℕ → ℕ → Row
-row_drawn s n i = record { name = numbered 82 (i + 1); terms = row_terms s n; low = None; high = Some (pos (row_sum s n / 2)) }
+row_drawn s n i = record {
+  name = numbered 82 (i + 1);
+  terms = row_terms s n;
+  low = None;
+  high =
+      Some (pos (row_sum s n / 2));
+}
 
 -- row i of those that are drawn one after another from the state s
 abbrev pub row_after : ℕ → ℕ → ℕ → Row

@@ -2,7 +2,8 @@
 ghost use Rattle.std.specs.Prelude.{◌≡◌, ◌<◌, ◌/◌, ◌%◌, ◌^◌};
 ghost use Rattle.bl_gen.specs.Made.{next};
 
-/// The state of the linear congruential generator that the C standard shows for `rand`, modulo 2^31.
+/// The state of the linear congruential generator that the C standard shows for `rand`, modulo
+/// 2^31.
 #[derive(Drop)]
 pub struct Draws {
     pub state: u32,

@@ -1,8 +1,10 @@
 //! The problem of a number: columns of 0 or 1, and rows whose coefficients are digits.
-ghost use Rattle.std.specs.Prelude.{◌≡◌, ◌<◌, ◌≤◌, ◌+◌, ◌*◌, ◌^◌, ℕ, IfOk, map, pos, neg_ℤ, ◌/◌, ◌%◌};
+ghost use Rattle.std.specs.Prelude.{◌≡◌, ◌<◌, ◌≤◌, ◌+◌, ◌*◌, ◌^◌, ℕ, IfOk, map, pos, neg_ℤ, ◌/◌};
+ghost use Rattle.std.specs.Prelude.{◌%◌};
 ghost use Rattle.std.specs.List.{range_with_len};
 ghost use Rattle.bl_problem.specs.Program.{IsProgram};
-ghost use Rattle.bl_gen.specs.Made.{column, made, next, numbered, row_after, row_drawn, row_sum, row_terms, state};
+ghost use Rattle.bl_gen.specs.Made.{column, made, next, numbered, row_after, row_drawn, row_sum};
+ghost use Rattle.bl_gen.specs.Made.{row_terms, state};
 
 use crate::draws::Draws;
 use bl_mods::Items;
@@ -62,7 +64,8 @@ fn digit_term(column: u32, coefficient: u32) -> Term
 fn make_columns(alloc: Global, draws: &mut Draws, columns: u32) -> Result<Vec<Column>, AllocError>
     requires few { columns ≤ 1000 }
     requires small { draws.old.state < 2 ^ 31 }
-    ensures columns { IfOk result (λ list. list.items ≡ map (column draws.old.state) (range_with_len 0 columns)) }
+    ensures columns { IfOk result
+        (λ list. list.items ≡ map (column draws.old.state) (range_with_len 0 columns)) }
     ensures state { IfOk result (λ _. draws.new.state ≡ state draws.old.state columns) }
     ensures small { draws.new.state < 2 ^ 31 }
 {
@@ -74,7 +77,8 @@ fn make_columns(alloc: Global, draws: &mut Draws, columns: u32) -> Result<Vec<Co
     Ok(list)
 }
 
-// A row, which draws a coefficient for each column in turn; a zero makes no term. At most half of their sum is allowed.
+// A row, which draws a coefficient for each column in turn; a zero makes no term. At most half
+// of their sum is allowed.
 fn make_row(alloc: Global, draws: &mut Draws, columns: u32, row: u32) -> Result<Row, AllocError>
     requires few { columns ≤ 1000 }
     requires number { row < 1000 }
@@ -111,7 +115,8 @@ fn make_rows(
     requires few { columns ≤ 1000 }
     requires few_rows { rows ≤ 1000 }
     requires small { draws.old.state < 2 ^ 31 }
-    ensures { IfOk result (λ list. list.items ≡ map (row_after draws.old.state columns) (range_with_len 0 rows)) }
+    ensures { IfOk result (λ list. list.items ≡ map (row_after draws.old.state columns)
+        (range_with_len 0 rows)) }
 {
     let mut list = Vec::new(alloc);
     for i in 0..rows {

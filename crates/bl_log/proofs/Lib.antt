@@ -1,9 +1,9 @@
-pub mod Laid
-pub mod Words
-pub mod Numbers
-pub mod Numerals
-pub mod Stepping
-pub mod Spellings
-pub mod Entries
-pub mod Journals
-pub mod Lines
+mod Laid
+mod Words
+mod Numbers
+mod Numerals
+mod Stepping
+mod Spellings
+mod Entries
+mod Journals
+mod Lines

@@ -1,5 +1,6 @@
 -- Numbers as they are written.
-use Rattle.std.proofs.Common.{◌≡◌, ◌<◌, ◌≤◌, ◌+◌, ◌%◌, ◌^◌, ◌∙◌, ℕ, ℤ, pos, negsuc, suc, [], ◌∷◌, length, ap, sym, subst, arith}
+use Rattle.std.proofs.Common.{◌≡◌, ◌<◌, ◌≤◌, ◌+◌, ◌%◌, ◌^◌, ◌∙◌, ℕ, ℤ, pos, negsuc, suc, [], ◌∷◌}
+use Rattle.std.proofs.Common.{length, ap, sym, subst, arith}
 use Rattle.std.specs.Prelude.{All, FitsSigned}
 use Rattle.std.specs.Int.{w64, w128}
 use Rattle.std.specs.Fmt.{decimal, signed_decimal}
@@ -19,17 +20,26 @@ record IsNumberText (n : ℕ) (ds : Text) : Type 0 where
 
 number_text : (n : ℕ) → n < 10 ^ 64 → IsNumberText n (decimal n)
 number_text = decimal_by_steps_wide IsNumberText
-    (λ m small. record { some = omega arith; above = All-cons IsAbove (48 + m) [] (omega arith) (All-nil IsAbove) })
-    (λ m ds large h. record { some = omega (arith, h.some, length-append ds ((48 + m % 10) ∷ [])); above = All-push IsAbove ds (48 + m % 10) h.above (omega arith) })
+    (λ m small. record {
+      some = omega arith;
+      above =
+          All-cons IsAbove (48 + m) [] (omega arith) (All-nil IsAbove);
+    })
+    (λ m ds large h. record {
+      some = omega (arith, h.some, length-append ds ((48 + m % 10) ∷ []));
+      above = All-push IsAbove ds (48 + m % 10) h.above (omega arith);
+    })
 
 seen : (ds : Text) → All IsAbove ds → All IsSeen ds
 seen ds h = All-weaker IsAbove IsSeen (λ b above. omega (arith, above)) ds h
 
 pub decimal_plain : (n : ℕ) → n < 10 ^ 64 → IsPlain (decimal n)
-decimal_plain n small = let h = number_text n small in record { some = h.some; seen = seen (decimal n) h.above }
+decimal_plain n small = let h =
+    number_text n small in record { some = h.some; seen = seen (decimal n) h.above }
 
 pub decimal_one : (m n : ℕ) → m < 10 ^ 64 → n < 10 ^ 64 → decimal m ≡ decimal n → m ≡ n
-decimal_one m n p q e = sym (decimal_is_IsNumeral_wide m p).1 ∙ ap (digits_value 10) e ∙ (decimal_is_IsNumeral_wide n q).1
+decimal_one m n p q e = sym (decimal_is_IsNumeral_wide m p).1 ∙ ap (digits_value 10) e
+    ∙ (decimal_is_IsNumeral_wide n q).1
 
 -- the size of a number of at most 128 bits
 abbrev size : ℤ → ℕ
@@ -54,7 +64,12 @@ signed_plain (negsuc n) small =
     record { some = omega arith; seen = All-cons IsSeen 45 (decimal (suc n)) (omega arith) h.seen }
 
 no_minus : (n : ℕ) (ds : Text) → n < 10 ^ 64 → decimal n ≡ 45 ∷ ds → ⊥
-no_minus n ds small e = omega (arith, All-head IsAbove 45 ds (subst (λ (t : Text). All IsAbove t) e (number_text n small).above))
+no_minus n ds small e =
+    omega (
+      arith,
+      All-head IsAbove 45 ds
+          (subst (λ (t : Text). All IsAbove t) e (number_text n small).above),
+    )
 
 behind : (x y : ℕ) (xs ys : Text) → x ∷ xs ≡ y ∷ ys → xs ≡ ys
 behind x y xs ys e = cc
@@ -63,4 +78,6 @@ pub signed_one : (y z : ℤ) → IsWide y → IsWide z → signed_decimal y ≡ 
 signed_one (pos m) (pos n) p q e = ap pos (decimal_one m n p q e)
 signed_one (pos m) (negsuc n) p q e = absurd (no_minus m (decimal (suc n)) p e)
 signed_one (negsuc m) (pos n) p q e = absurd (no_minus n (decimal (suc m)) q (sym e))
-signed_one (negsuc m) (negsuc n) p q e = ap negsuc (let s : suc m ≡ suc n = decimal_one (suc m) (suc n) p q (behind 45 45 _ _ e) in omega (arith, s))
+signed_one (negsuc m) (negsuc n) p q e =
+    ap negsuc (let s : suc m ≡ suc n =
+    decimal_one (suc m) (suc n) p q (behind 45 45 _ _ e) in omega (arith, s))

@@ -1,5 +1,6 @@
 -- Numbers as they are read.
-use Rattle.std.proofs.Common.{◌≡◌, ◌<◌, ◌^◌, ◌∙◌, ℕ, ℤ, pos, negsuc, neg_ℤ, zero, suc, List, ◌∷◌, ap, sym, subst, refl, arith, Ok, Err, is_ok, true≢false}
+use Rattle.std.proofs.Common.{◌≡◌, ◌<◌, ◌^◌, ◌∙◌, ℕ, ℤ, pos, negsuc, neg_ℤ, zero, suc, List, ◌∷◌}
+use Rattle.std.proofs.Common.{ap, sym, subst, refl, arith, Ok, Err, is_ok, true≢false}
 use Rattle.std.specs.Prelude.{FitsSigned, Result}
 use Rattle.std.specs.Int.{w64, w128}
 use Rattle.std.specs.Int.Signed.{mag}
@@ -7,7 +8,8 @@ use Rattle.std.specs.Fmt.{decimal, signed_decimal}
 use Rattle.std.specs.Str.{IsAscii}
 use Rattle.std.specs.Str.Parse.{ParsesSigned}
 use Rattle.std.proofs.lemmas.Fmt.{IsAscii-decimal_wide, decimal_is_IsNumeral_wide}
-use Rattle.std.proofs.lemmas.Str.Parse.{numerals_by_value, parse_signed_digits, parse_signed_minus, tells_digits}
+use Rattle.std.proofs.lemmas.Str.Parse.{numerals_by_value, parse_signed_digits}
+use Rattle.std.proofs.lemmas.Str.Parse.{parse_signed_minus, tells_digits}
 use Rattle.std.proofs.lemmas.Result.{Ok-from_Ok_iff}
 use Rattle.bl_log.proofs.Numbers.{IsWide}
 
@@ -27,12 +29,16 @@ mag64 (pos n) f = omega (arith, f.sfits)
 mag64 (negsuc n) f = omega (arith, f.sfits)
 
 -- what is written of a number of 128 bits is read as this number
-pub parse128 : {E : Type 0} (z : ℤ) (bs : List ℕ) (r : Result ℤ E) → FitsSigned w128 z → bs ≡ signed_decimal z → ParsesSigned w128 10 bs r → r ≡ Ok z
+pub parse128 : {E : Type 0} (z : ℤ) (bs : List ℕ) (r : Result ℤ E) → FitsSigned w128 z → bs
+    ≡ signed_decimal z → ParsesSigned w128 10 bs r → r ≡ Ok z
 parse128 (pos n) bs r fits is h =
     let k = decimal_is_IsNumeral_wide n (omega (arith, fits.sfits)) in
-    let read = parse_signed_digits (numerals_by_value _ tells_digits) w128 (decimal n) r (subst (λ l. ParsesSigned w128 10 l r) is h) k.0.1 in
+    let read = parse_signed_digits (numerals_by_value _ tells_digits) w128 (decimal n) r
+    (subst (λ l. ParsesSigned w128 10 l r) is h) k.0.1 in
     Ok-from_Ok_iff r _ _ read (k.0.0, omega (arith, k.1, fits.sfits)) ∙ ap (λ m. Ok (pos m)) k.1
 parse128 (negsuc n) bs r fits is h =
     let k = decimal_is_IsNumeral_wide (suc n) (omega (arith, fits.sfits)) in
-    let read = parse_signed_minus (numerals_by_value _ tells_digits) w128 (45 ∷ decimal (suc n)) r (subst (λ l. ParsesSigned w128 10 l r) is h) refl in
-    Ok-from_Ok_iff r _ _ read (k.0.1, k.0.0, omega (arith, k.1, fits.sfits)) ∙ ap (λ m. Ok (neg_ℤ (pos m))) k.1
+    let read = parse_signed_minus (numerals_by_value _ tells_digits) w128 (45 ∷ decimal (suc n)) r
+    (subst (λ l. ParsesSigned w128 10 l r) is h) refl in
+    Ok-from_Ok_iff r _ _ read (k.0.1, k.0.0, omega (arith, k.1, fits.sfits))
+    ∙ ap (λ m. Ok (neg_ℤ (pos m))) k.1

@@ -85,4 +85,5 @@ Fits (Take seat id) = IsU32 seat × IsU32 id
 Fits (Back seat id) = IsU32 seat × IsU32 id
 Fits (Encode seat id form) = IsU32 seat × IsU32 id
 Fits (Free seat ids) = IsU32 seat × All IsU32 ids
-Fits (Put seat id found low next) = IsU32 seat × IsU32 id × IsI128 low × FoundFits found × StepFits next
+Fits (Put seat id found low next) = IsU32 seat × IsU32 id × IsI128 low × FoundFits found
+    × StepFits next

@@ -1,5 +1,6 @@
 //! Texts that are read as journals.
-ghost use Rattle.std.specs.Prelude.{◌⊎◌, ◌≡◌, ◌≢◌, ◌<◌, ◌^◌, ◌++◌, ◌∷◌, ℕ, List, length, All, Err, IfOk, MatchOption, MatchResult};
+ghost use Rattle.std.specs.Prelude.{◌⊎◌, ◌≡◌, ◌≢◌, ◌<◌, ◌^◌, ◌++◌, ◌∷◌, ℕ, List, length, All};
+ghost use Rattle.std.specs.Prelude.{Err, IfOk, MatchOption, MatchResult};
 ghost use Rattle.bl_journal.specs.declared.entry.Entry.{Entry as AnyEntry};
 ghost use Rattle.bl_log.specs.declared.fault.LogFault.TheVariants.{Line, Memory};
 ghost use Rattle.bl_log.specs.declared.fault.Miss.TheVariants.{Words};
@@ -14,14 +15,18 @@ use bl_journal::{Entry, Journal};
 use bl_text::lines;
 use std::alloc::{AllocError, Global};
 
-/// The journal whose text this is, of fewer than 2^32 bytes. `Line` tells the first line that spells no entry, counted from 1, and comes exactly where there is one; a last line without its line feed spells none. `Memory` comes only for want of memory.
+/// The journal whose text this is, of fewer than 2^32 bytes. `Line` tells the first line that
+/// spells no entry, counted from 1, and comes exactly where there is one; a last line without
+/// its line feed spells none. `Memory` comes only for want of memory.
 pub fn read_log(alloc: Global, bytes: &[u8]) -> Result<Journal, LogFault>
     requires short { length bytes.now < 2 ^ 32 }
     ensures text { IfOk result (λ journal. bytes.now ≡ text_of journal.entries) }
     ensures fits { IfOk result (λ journal. All Fits journal.entries) }
     ensures line { (n : ℕ) → result ≡ Err (Line n) → IsFirstBad bytes.now n }
-    ensures exact { (n : ℕ) → IsFirstBad bytes.now n → MatchResult result (λ _. ⊥) (λ fault. (fault ≡ Line n) ⊎ (fault ≡ Memory)) }
-    ensures back { (entries : List AnyEntry) → All Fits entries → bytes.now ≡ text_of entries → MatchResult result (λ journal. journal.entries ≡ entries) (λ fault. fault ≡ Memory) }
+    ensures exact { (n : ℕ) → IsFirstBad bytes.now n
+        → MatchResult result (λ _. ⊥) (λ fault. (fault ≡ Line n) ⊎ (fault ≡ Memory)) }
+    ensures back { (entries : List AnyEntry) → All Fits entries → bytes.now ≡ text_of entries
+        → MatchResult result (λ journal. journal.entries ≡ entries) (λ fault. fault ≡ Memory) }
 {
     read_lines(alloc, bytes)
 }
@@ -84,7 +89,9 @@ fn behind<'a>(
     entry: &Entry,
     rest: &'a [u8],
 ) -> Result<Option<&'a [u8]>, AllocError>
-    ensures { IfOk result (λ found. MatchOption found ((tail : List ℕ) → rest.now ≢ line_of entry.now ++ 10 ∷ tail) (λ tail. rest.now ≡ line_of entry.now ++ 10 ∷ tail.now)) }
+    ensures { IfOk result (λ found. MatchOption found
+        ((tail : List ℕ) → rest.now ≢ line_of entry.now ++ 10 ∷ tail)
+        (λ tail. rest.now ≡ line_of entry.now ++ 10 ∷ tail.now)) }
 {
     text.clear();
     push_line(text, entry)?;

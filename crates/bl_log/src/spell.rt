@@ -4,7 +4,8 @@ ghost use Rattle.std.specs.String.{string_bytes};
 ghost use Rattle.bl_log.specs.declared.fault.Miss.TheVariants.{Memory};
 ghost use Rattle.bl_log.specs.Reading.{Reads};
 ghost use Rattle.bl_log.specs.Spaced.{spaced, each, listed};
-ghost use Rattle.bl_log.specs.Fits.{IsU32, IsI64, IsI128, IsStatus, ModFits, TermFits, CutFits, ListFits};
+ghost use Rattle.bl_log.specs.Fits.{IsU32, IsI64, IsI128, IsStatus, ModFits, TermFits, CutFits};
+ghost use Rattle.bl_log.specs.Fits.{ListFits};
 ghost use Rattle.bl_log.specs.Log.{natural, integer, status, status_word, placed, term, cut};
 
 use crate::fault::Miss;
@@ -25,10 +26,12 @@ pub(crate) trait Spell {
 
     /// Adds the words, with a space before each. `AllocError` where there is no memory.
     fn push(&self, text: &mut String) -> Result<(), AllocError>
-        ensures laid { OnOk result (string_bytes text.new ≡ string_bytes text.old ++ spaced (spelled self.now)) }
+        ensures laid { OnOk result (string_bytes text.new ≡ string_bytes text.old
+            ++ spaced (spelled self.now)) }
         ensures fits { OnOk result (fits self.now) };
 
-    /// Reads such a value from the words in front. `Words` where they spell none; `Memory` where there is no memory.
+    /// Reads such a value from the words in front. `Words` where they spell none; `Memory` where
+    /// there is no memory.
     fn read(alloc: Global, words: &mut WordWalk<'_>) -> Result<Self, Miss>
         ensures reads { Reads spelled fits words.old result words.new }
         ensures fits { IfOk result fits };
@@ -185,7 +188,8 @@ impl Spell for Shared<Cut> {
 
 /// Adds the words of each.
 pub(crate) fn push_each<T: Spell>(text: &mut String, list: &[T]) -> Result<(), AllocError>
-    ensures laid { OnOk result (string_bytes text.new ≡ string_bytes text.old ++ spaced (each T.spelled list.now)) }
+    ensures laid { OnOk result (string_bytes text.new ≡ string_bytes text.old
+        ++ spaced (each T.spelled list.now)) }
     ensures fits { OnOk result (ListFits T.fits list.now) }
 {
     for x in list {
@@ -196,7 +200,8 @@ pub(crate) fn push_each<T: Spell>(text: &mut String, list: &[T]) -> Result<(), A
 
 /// Adds how many there are, and the words of each.
 pub(crate) fn push_list<T: Spell>(text: &mut String, list: &[T]) -> Result<(), AllocError>
-    ensures laid { OnOk result (string_bytes text.new ≡ string_bytes text.old ++ spaced (listed T.spelled list.now)) }
+    ensures laid { OnOk result (string_bytes text.new ≡ string_bytes text.old
+        ++ spaced (listed T.spelled list.now)) }
     ensures fits { OnOk result (ListFits T.fits list.now) }
 {
     write!(text, " {}", list.len())?;
@@ -222,7 +227,9 @@ fn read_several<T: Spell + Drop>(
     count: usize,
     words: &mut WordWalk<'_>,
 ) -> Result<Items<T>, Miss>
-    ensures reads { (xs : List T) (rest : List (List ℕ)) → length xs ≡ count → All T.fits xs → words.old ≡ each T.spelled xs ++ rest → MatchResult result (λ list. (list ≡ xs) × (words.new ≡ rest)) (λ e. e ≡ Memory) }
+    ensures reads { (xs : List T) (rest : List (List ℕ)) → length xs ≡ count → All T.fits xs
+        → words.old ≡ each T.spelled xs ++ rest
+        → MatchResult result (λ list. (list ≡ xs) × (words.new ≡ rest)) (λ e. e ≡ Memory) }
     ensures fits { IfOk result (ListFits T.fits) }
 {
     let mut list = Items::new(alloc);

@@ -3,8 +3,11 @@ ghost use Rattle.std.specs.Prelude.{◌≡◌, ◌++◌, ◌∷◌, [], codes, A
 ghost use Rattle.std.specs.Fmt.{decimal};
 ghost use Rattle.std.specs.String.{string_bytes};
 ghost use Rattle.bl_log.specs.Spaced.{spaced, joined, listed};
-ghost use Rattle.bl_log.specs.Fits.{IsU32, IsI128, Fits, FoundFits, StepFits, ChangeFits, BoundsAndCutsFit, StatusesFit, ModsFit, PlacesFit, ListFits, CutFits};
-ghost use Rattle.bl_log.specs.Log.{natural, placed, cut, bounds_and_cuts, statuses, lists_of, form_word, put_head, found_point, next_step, line_of, text_of};
+ghost use Rattle.bl_log.specs.Fits.{IsU32, IsI128, Fits, FoundFits, StepFits, ChangeFits};
+ghost use Rattle.bl_log.specs.Fits.{BoundsAndCutsFit, StatusesFit, ModsFit, PlacesFit, ListFits};
+ghost use Rattle.bl_log.specs.Fits.{CutFits};
+ghost use Rattle.bl_log.specs.Log.{natural, placed, cut, bounds_and_cuts, statuses, lists_of};
+ghost use Rattle.bl_log.specs.Log.{form_word, put_head, found_point, next_step, line_of, text_of};
 
 use crate::spell::{Spell, push_each, push_list, push_word};
 use bl_desc::{Change, Form};
@@ -13,7 +16,8 @@ use bl_mods::{FieldMods, Items, Places, Shared};
 use bl_problem::Cut;
 use std::alloc::{AllocError, Global};
 
-/// A line for each entry, in order, each with a line feed behind it. `AllocError` where there is no memory.
+/// A line for each entry, in order, each with a line feed behind it. `AllocError` where there is
+/// no memory.
 pub fn log_text(alloc: Global, journal: &Journal) -> Result<Vec<u8>, AllocError>
     ensures text { IfOk result (λ text. text.items ≡ text_of journal.now.entries) }
     ensures fits { OnOk result (All Fits journal.now.entries) }
@@ -28,7 +32,8 @@ pub fn log_text(alloc: Global, journal: &Journal) -> Result<Vec<u8>, AllocError>
 
 /// Adds the line of an entry.
 pub(crate) fn push_line(text: &mut String, entry: &Entry) -> Result<(), AllocError>
-    ensures laid { OnOk result (string_bytes text.new ≡ string_bytes text.old ++ line_of entry.now) }
+    ensures laid { OnOk result (string_bytes text.new ≡ string_bytes text.old
+        ++ line_of entry.now) }
     ensures fits { OnOk result (Fits entry.now) }
 {
     match entry {
@@ -67,7 +72,8 @@ pub(crate) fn push_line(text: &mut String, entry: &Entry) -> Result<(), AllocErr
 
 // Adds the numbers of a seat and a node.
 fn push_two(text: &mut String, seat: &u32, id: &u32) -> Result<(), AllocError>
-    ensures laid { OnOk result (string_bytes text.new ≡ string_bytes text.old ++ spaced (decimal seat.now ∷ decimal id.now ∷ [])) }
+    ensures laid { OnOk result (string_bytes text.new ≡ string_bytes text.old
+        ++ spaced (decimal seat.now ∷ decimal id.now ∷ [])) }
     ensures fits { OnOk result (IsU32 seat.now × IsU32 id.now) }
 {
     seat.push(text)?;
@@ -77,7 +83,8 @@ fn push_two(text: &mut String, seat: &u32, id: &u32) -> Result<(), AllocError>
 
 // Adds the words of a put as far as the point that was found.
 fn push_head(text: &mut String, seat: &u32, id: &u32, low: &i128) -> Result<(), AllocError>
-    ensures laid { OnOk result (string_bytes text.new ≡ string_bytes text.old ++ joined (put_head seat.now id.now low.now)) }
+    ensures laid { OnOk result (string_bytes text.new ≡ string_bytes text.old
+        ++ joined (put_head seat.now id.now low.now)) }
     ensures fits { OnOk result (IsU32 seat.now × IsU32 id.now × IsI128 low.now) }
 {
     text.push_str("put")?;
@@ -108,7 +115,8 @@ fn push_next(text: &mut String, next: &Step) -> Result<(), AllocError>
 
 // Adds the point that was found, or that there is none.
 fn push_found(text: &mut String, found: &Option<Items<i64>>) -> Result<(), AllocError>
-    ensures laid { OnOk result (string_bytes text.new ≡ string_bytes text.old ++ spaced (found_point found.now)) }
+    ensures laid { OnOk result (string_bytes text.new ≡ string_bytes text.old
+        ++ spaced (found_point found.now)) }
     ensures fits { OnOk result (FoundFits found.now) }
 {
     match found {
@@ -122,7 +130,8 @@ fn push_found(text: &mut String, found: &Option<Items<i64>>) -> Result<(), Alloc
 
 // Adds what becomes of the node.
 fn push_step(text: &mut String, next: &Step) -> Result<(), AllocError>
-    ensures laid { OnOk result (string_bytes text.new ≡ string_bytes text.old ++ spaced (next_step next.now)) }
+    ensures laid { OnOk result (string_bytes text.new ≡ string_bytes text.old
+        ++ spaced (next_step next.now)) }
     ensures fits { OnOk result (StepFits next.now) }
 {
     match next {
@@ -139,7 +148,8 @@ fn push_step(text: &mut String, next: &Step) -> Result<(), AllocError>
 
 // Adds the lists of a change.
 fn push_change(text: &mut String, change: &Change<Cut>) -> Result<(), AllocError>
-    ensures laid { OnOk result (string_bytes text.new ≡ string_bytes text.old ++ spaced (lists_of change.now)) }
+    ensures laid { OnOk result (string_bytes text.new ≡ string_bytes text.old
+        ++ spaced (lists_of change.now)) }
     ensures fits { OnOk result (ChangeFits change.now) }
 {
     push_bounds_and_cuts(text, change)?;
@@ -148,7 +158,8 @@ fn push_change(text: &mut String, change: &Change<Cut>) -> Result<(), AllocError
 }
 
 fn push_bounds_and_cuts(text: &mut String, change: &Change<Cut>) -> Result<(), AllocError>
-    ensures laid { OnOk result (string_bytes text.new ≡ string_bytes text.old ++ spaced (bounds_and_cuts change.now)) }
+    ensures laid { OnOk result (string_bytes text.new ≡ string_bytes text.old
+        ++ spaced (bounds_and_cuts change.now)) }
     ensures fits { OnOk result (BoundsAndCutsFit change.now) }
 {
     push_mods(text, "lows", &change.lows)?;
@@ -159,7 +170,8 @@ fn push_bounds_and_cuts(text: &mut String, change: &Change<Cut>) -> Result<(), A
 }
 
 fn push_statuses(text: &mut String, change: &Change<Cut>) -> Result<(), AllocError>
-    ensures laid { OnOk result (string_bytes text.new ≡ string_bytes text.old ++ spaced (statuses change.now)) }
+    ensures laid { OnOk result (string_bytes text.new ≡ string_bytes text.old
+        ++ spaced (statuses change.now)) }
     ensures fits { OnOk result (StatusesFit change.now) }
 {
     push_mods(text, "cols", &change.columns)?;
@@ -173,7 +185,8 @@ fn push_mods<T: Spell + Copy + Default>(
     name: &str,
     mods: &FieldMods<T>,
 ) -> Result<(), AllocError>
-    ensures laid { OnOk result (string_bytes text.new ≡ string_bytes text.old ++ spaced (name.now ∷ listed (placed T.spelled) mods.now)) }
+    ensures laid { OnOk result (string_bytes text.new ≡ string_bytes text.old
+        ++ spaced (name.now ∷ listed (placed T.spelled) mods.now)) }
     ensures fits { OnOk result (ModsFit T.fits mods.now) }
 {
     push_word(text, name)?;

@@ -1,5 +1,6 @@
 //! Changes and entries, as they are read from words.
-ghost use Rattle.std.specs.Prelude.{◌≡◌, ⊤, ◌++◌, ◌∷◌, [], ℕ, ℤ, List, codes, MatchResult, IfOk, All, Option};
+ghost use Rattle.std.specs.Prelude.{◌≡◌, ⊤, ◌++◌, ◌∷◌, [], ℕ, ℤ, List, codes, MatchResult, IfOk};
+ghost use Rattle.std.specs.Prelude.{All, Option};
 ghost use Rattle.std.specs.Fmt.{decimal, signed_decimal};
 ghost use Rattle.bl_mods.specs.Rising.{AreRising, IsRising};
 ghost use Rattle.bl_text.specs.Pieces.{words_of};
@@ -13,8 +14,10 @@ ghost use Rattle.bl_desc.specs.declared.change.Change.{Change as AnyChange};
 ghost use Rattle.bl_log.specs.declared.fault.Miss.TheVariants.{Memory, Words};
 ghost use Rattle.bl_log.specs.Reading.{Reads};
 ghost use Rattle.bl_log.specs.Spaced.{each, listed};
-ghost use Rattle.bl_log.specs.Log.{natural, placed, cut, cut_lists, lists_of, form_word, found_point, next_step, words_in};
-ghost use Rattle.bl_log.specs.Fits.{IsU32, IsI64, IsI128, Fits, FoundFits, StepFits, ChangeFits, ModsFit, PlacesFit, CutListsFit};
+ghost use Rattle.bl_log.specs.Log.{natural, placed, cut, cut_lists, lists_of, form_word};
+ghost use Rattle.bl_log.specs.Log.{found_point, next_step, words_in};
+ghost use Rattle.bl_log.specs.Fits.{IsU32, IsI64, IsI128, Fits, FoundFits, StepFits, ChangeFits};
+ghost use Rattle.bl_log.specs.Fits.{ModsFit, PlacesFit, CutListsFit};
 
 use crate::fault::Miss;
 use crate::spell::{Spell, read_list};
@@ -65,7 +68,8 @@ fn read_mods<T: Spell + Copy + Default>(
     words: &mut WordWalk<'_>,
     name: &[u8],
 ) -> Result<FieldMods<T>, Miss>
-    ensures reads { Reads (λ mods. name.now ∷ listed (placed T.spelled) mods) (ModsFit T.fits) words.old result words.new }
+    ensures reads { Reads (λ mods. name.now ∷ listed (placed T.spelled) mods) (ModsFit T.fits)
+        words.old result words.new }
     ensures fits { IfOk result (ModsFit T.fits) }
 {
     pass_word(words, name)?;
@@ -147,7 +151,11 @@ fn read_step(alloc: Global, words: &mut WordWalk<'_>) -> Result<Step, Miss>
 }
 
 fn read_split(alloc: Global, words: &mut WordWalk<'_>) -> Result<Step, Miss>
-    ensures reads { (common : AnyChange AnyCut) (column : ℕ) (at : ℤ) (rest : List (List ℕ)) → IsU32 column → IsI64 at → ChangeFits common → words.old ≡ decimal column ∷ signed_decimal at ∷ (lists_of common ++ rest) → MatchResult result (λ y. (y ≡ Split common column at) × (words.new ≡ rest)) (λ m. m ≡ Memory) }
+    ensures reads { (common : AnyChange AnyCut) (column : ℕ) (at : ℤ) (rest : List (List ℕ))
+        → IsU32 column → IsI64 at → ChangeFits common → words.old ≡ decimal column
+        ∷ signed_decimal at ∷ (lists_of common ++ rest)
+        → MatchResult result (λ y. (y ≡ Split common column at) × (words.new ≡ rest))
+        (λ m. m ≡ Memory) }
     ensures fits { IfOk result StepFits }
 {
     let column = u32::read(alloc, words)?;
@@ -157,9 +165,11 @@ fn read_split(alloc: Global, words: &mut WordWalk<'_>) -> Result<Step, Miss>
     Ok(Step::Split { common, column, at })
 }
 
-/// Reads an entry from the words of a line; whether the line is exactly the entry's is left to the caller. `Words` where they are those of no entry.
+/// Reads an entry from the words of a line; whether the line is exactly the entry's is left to
+/// the caller. `Words` where they are those of no entry.
 pub(crate) fn read_entry(alloc: Global, line: &[u8]) -> Result<Entry, Miss>
-    ensures reads { (e : AnyEntry) → Fits e → words_of line.now ≡ words_in e → MatchResult result (λ y. y ≡ e) (λ m. m ≡ Memory) }
+    ensures reads { (e : AnyEntry) → Fits e → words_of line.now ≡ words_in e
+        → MatchResult result (λ y. y ≡ e) (λ m. m ≡ Memory) }
     ensures fits { IfOk result Fits }
 {
     let mut walk = words(line);
@@ -169,7 +179,8 @@ pub(crate) fn read_entry(alloc: Global, line: &[u8]) -> Result<Entry, Miss>
 
 // Reads an entry of a kind.
 fn read_kind(alloc: Global, kind: &[u8], words: &mut WordWalk<'_>) -> Result<Entry, Miss>
-    ensures reads { (e : AnyEntry) → Fits e → kind.now ∷ words.old ≡ words_in e → MatchResult result (λ y. y ≡ e) (λ m. m ≡ Memory) }
+    ensures reads { (e : AnyEntry) → Fits e → kind.now ∷ words.old ≡ words_in e
+        → MatchResult result (λ y. y ≡ e) (λ m. m ≡ Memory) }
     ensures fits { IfOk result Fits }
 {
     if kind == b"take".as_slice() {
@@ -188,7 +199,8 @@ fn read_kind(alloc: Global, kind: &[u8], words: &mut WordWalk<'_>) -> Result<Ent
 }
 
 fn read_take(alloc: Global, words: &mut WordWalk<'_>) -> Result<Entry, Miss>
-    ensures reads { (seat id : ℕ) → IsU32 seat → IsU32 id → words.old ≡ decimal seat ∷ decimal id ∷ [] → MatchResult result (λ y. y ≡ Take seat id) (λ m. m ≡ Memory) }
+    ensures reads { (seat id : ℕ) → IsU32 seat → IsU32 id → words.old ≡ decimal seat ∷ decimal id
+        ∷ [] → MatchResult result (λ y. y ≡ Take seat id) (λ m. m ≡ Memory) }
     ensures fits { IfOk result Fits }
 {
     let seat = u32::read(alloc, words)?;
@@ -197,7 +209,8 @@ fn read_take(alloc: Global, words: &mut WordWalk<'_>) -> Result<Entry, Miss>
 }
 
 fn read_back(alloc: Global, words: &mut WordWalk<'_>) -> Result<Entry, Miss>
-    ensures reads { (seat id : ℕ) → IsU32 seat → IsU32 id → words.old ≡ decimal seat ∷ decimal id ∷ [] → MatchResult result (λ y. y ≡ Back seat id) (λ m. m ≡ Memory) }
+    ensures reads { (seat id : ℕ) → IsU32 seat → IsU32 id → words.old ≡ decimal seat ∷ decimal id
+        ∷ [] → MatchResult result (λ y. y ≡ Back seat id) (λ m. m ≡ Memory) }
     ensures fits { IfOk result Fits }
 {
     let seat = u32::read(alloc, words)?;
@@ -206,7 +219,9 @@ fn read_back(alloc: Global, words: &mut WordWalk<'_>) -> Result<Entry, Miss>
 }
 
 fn read_encode(alloc: Global, words: &mut WordWalk<'_>) -> Result<Entry, Miss>
-    ensures reads { (seat id : ℕ) (form : AnyForm) → IsU32 seat → IsU32 id → words.old ≡ decimal seat ∷ decimal id ∷ form_word form ∷ [] → MatchResult result (λ y. y ≡ Encode seat id form) (λ m. m ≡ Memory) }
+    ensures reads { (seat id : ℕ) (form : AnyForm) → IsU32 seat → IsU32 id → words.old
+        ≡ decimal seat ∷ decimal id ∷ form_word form ∷ []
+        → MatchResult result (λ y. y ≡ Encode seat id form) (λ m. m ≡ Memory) }
     ensures fits { IfOk result Fits }
 {
     let seat = u32::read(alloc, words)?;
@@ -217,7 +232,8 @@ fn read_encode(alloc: Global, words: &mut WordWalk<'_>) -> Result<Entry, Miss>
 }
 
 fn form_in(word: &[u8]) -> Result<Form, Miss>
-    ensures { (form : AnyForm) → word.now ≡ form_word form → MatchResult result (λ f. f ≡ form) (λ m. m ≡ Memory) }
+    ensures { (form : AnyForm) → word.now ≡ form_word form
+        → MatchResult result (λ f. f ≡ form) (λ m. m ≡ Memory) }
 {
     if word == b"explicit".as_slice() {
         Ok(Form::Explicit)
@@ -229,7 +245,9 @@ fn form_in(word: &[u8]) -> Result<Form, Miss>
 }
 
 fn read_free(alloc: Global, words: &mut WordWalk<'_>) -> Result<Entry, Miss>
-    ensures reads { (seat : ℕ) (ids : List ℕ) → IsU32 seat → All IsU32 ids → words.old ≡ decimal seat ∷ each natural ids → MatchResult result (λ y. y ≡ Free seat ids) (λ m. m ≡ Memory) }
+    ensures reads { (seat : ℕ) (ids : List ℕ) → IsU32 seat → All IsU32 ids → words.old
+        ≡ decimal seat ∷ each natural ids → MatchResult result (λ y. y ≡ Free seat ids)
+        (λ m. m ≡ Memory) }
     ensures fits { IfOk result Fits }
 {
     let seat = u32::read(alloc, words)?;
@@ -239,7 +257,8 @@ fn read_free(alloc: Global, words: &mut WordWalk<'_>) -> Result<Entry, Miss>
 
 // Reads numbers as far as the end of the line.
 fn read_rest(alloc: Global, words: &mut WordWalk<'_>) -> Result<Items<u32>, Miss>
-    ensures reads { (ids : List ℕ) → All IsU32 ids → words.old ≡ each natural ids → MatchResult result (λ list. list ≡ ids) (λ m. m ≡ Memory) }
+    ensures reads { (ids : List ℕ) → All IsU32 ids → words.old ≡ each natural ids
+        → MatchResult result (λ list. list ≡ ids) (λ m. m ≡ Memory) }
     ensures fits { IfOk result (All IsU32) }
 {
     let mut ids = Items::new(alloc);

@@ -1,11 +1,11 @@
-pub mod PerName
-pub mod Lists
+mod PerName
+mod Lists
 pub mod Units
-pub mod Senses
-pub mod Limits
-pub mod Programs
-pub mod Made
-pub mod Values
-pub mod FirstFault
-pub mod RowLaws
-pub mod Files
+mod Senses
+mod Limits
+mod Programs
+mod Made
+mod Values
+mod FirstFault
+mod RowLaws
+mod Files

@@ -1,5 +1,7 @@
 -- What keeps the limits.
-use Rattle.std.proofs.Common.{Result, Ok, Err, ◌≡◌, ℕ, suc, ◌^◌, ◌<◌, Bool, true, false, cond, ◌&&◌, List, [], ◌∷◌, length, get_or, Option, Some, None, refl, ap, ◌∙◌, arith, ℤ, pos, negsuc, ◌+ℤ◌, ◌-ℤ◌, ◌≤ℤ◌}
+use Rattle.std.proofs.Common.{Result, Ok, Err, ◌≡◌, ℕ, suc, ◌^◌, ◌<◌, Bool, true, false, cond}
+use Rattle.std.proofs.Common.{◌&&◌, List, [], ◌∷◌, length, get_or, Option, Some, None, refl, ap}
+use Rattle.std.proofs.Common.{◌∙◌, arith, ℤ, pos, negsuc, ◌+ℤ◌, ◌-ℤ◌, ◌≤ℤ◌}
 use Rattle.std.specs.Prelude.{nat_abs}
 use Rattle.std.specs.List.{list_all}
 use Rattle.std.proofs.lemmas.Int.{ints}
@@ -17,27 +19,33 @@ use Rattle.bl_mps.specs.declared.scale.RowEnds.{RowEnds}
 use Rattle.bl_cards.specs.declared.kind.Role.{Role}
 use Rattle.bl_cards.specs.declared.kind.Role.TheVariants.{Objective, Extra, AtMost, AtLeast, Equal}
 use Rattle.bl_cards.specs.Lines.{is_limited}
-use Rattle.bl_mps.specs.Meaning.{low_end, high_end, is_within, term_of, terms_of, term_within, end_within, limited}
+use Rattle.bl_mps.specs.Meaning.{low_end, high_end, is_within, term_of, terms_of, term_within}
+use Rattle.bl_mps.specs.Meaning.{end_within, limited}
 
 -- ---- what is kept, and what is too wide
 
-pub kept : {A : Type 0} (keeps : A → Bool) (x y : A) → limited keeps x ≡ Ok y → (keeps x ≡ true) × (x ≡ y)
+pub kept : {A : Type 0} (keeps : A → Bool) (x y : A) → limited keeps x ≡ Ok y → (keeps x ≡ true)
+    × (x ≡ y)
 kept {A = A} keeps x y e = by (keeps x) e
   where
-    by : (t : Bool) → cond {A = Result A What} t (Ok x) (Err what.TooWide) ≡ Ok y → (t ≡ true) × (x ≡ y)
+    by : (t : Bool) → cond {A = Result A What} t (Ok x) (Err what.TooWide) ≡ Ok y → (t ≡ true)
+        × (x ≡ y)
     by true e = (refl, cc)
     by false e = absurd cc
 
-pub wide : {A : Type 0} (keeps : A → Bool) (x : A) (w : What) → limited keeps x ≡ Err w → (keeps x ≡ false) × (w ≡ what.TooWide)
+pub wide : {A : Type 0} (keeps : A → Bool) (x : A) (w : What) → limited keeps x ≡ Err w
+    → (keeps x ≡ false) × (w ≡ what.TooWide)
 wide {A = A} keeps x w e = by (keeps x) e
   where
-    by : (t : Bool) → cond {A = Result A What} t (Ok x) (Err what.TooWide) ≡ Err w → (t ≡ false) × (w ≡ what.TooWide)
+    by : (t : Bool) → cond {A = Result A What} t (Ok x) (Err what.TooWide) ≡ Err w → (t ≡ false)
+        × (w ≡ what.TooWide)
     by true e = absurd cc
     by false e = (refl, cc)
 
 -- ---- lists
 
-pub all_true : {A : Type 0} (p : A → Bool) (xs : List A) (k : ℕ) (d : A) → list_all p xs ≡ true → k < length xs → p (get_or xs k d) ≡ true
+pub all_true : {A : Type 0} (p : A → Bool) (xs : List A) (k : ℕ) (d : A) → list_all p xs ≡ true
+    → k < length xs → p (get_or xs k d) ≡ true
 all_true p xs k d e l = by (p (get_or xs k d)) refl
   where
     by : (t : Bool) → p (get_or xs k d) ≡ t → t ≡ true
@@ -54,8 +62,14 @@ pub one_fails : {A : Type 0} (p : A → Bool) (xs : List A) → list_all p xs �
 one_fails p [] e = absurd cc
 one_fails {A = A} p (x ∷ xs) e = by (p x) refl e (one_fails p xs)
   where
-    by : (t : Bool) → p x ≡ t → (t && list_all p xs) ≡ false → (list_all p xs ≡ false → Fails p xs) → Fails p (x ∷ xs)
-    by true f g ih = let r = ih g in record { place = suc r.place; within = let l = r.within in omega (arith, l); is = r.is }
+    by : (t : Bool) → p x ≡ t → (t && list_all p xs) ≡ false
+        → (list_all p xs ≡ false → Fails p xs) → Fails p (x ∷ xs)
+    by true f g ih = let r = ih g in record {
+      place = suc r.place;
+      within = let l =
+          r.within in omega (arith, l);
+      is = r.is;
+    }
     by false f g ih = record { place = 0; within = omega arith; is = λ d. f }
 
 -- ---- the ends of a row
@@ -69,13 +83,17 @@ below b k = omega (arith, ints)
 above : (b : ℤ) (k : ℕ) → b ≤ℤ (b +ℤ pos k)
 above b k = omega (arith, ints)
 
-two_ends : (a b : ℤ) → (is_within (10 ^ 24) a && is_within (10 ^ 24) b) ≡ true → a ≤ℤ b → AreEnds (Some a) (Some b)
-two_ends a b e l = let t = and_parts (is_within (10 ^ 24) a) (is_within (10 ^ 24) b) e in (within_is (10 ^ 24) a t.0, within_is (10 ^ 24) b t.1, l)
+two_ends : (a b : ℤ) → (is_within (10 ^ 24) a && is_within (10 ^ 24) b) ≡ true → a ≤ℤ b
+    → AreEnds (Some a) (Some b)
+two_ends a b e l = let t = and_parts (is_within (10 ^ 24) a) (is_within (10 ^ 24) b) e in
+    (within_is (10 ^ 24) a t.0, within_is (10 ^ 24) b t.1, l)
 
 one_end : (b : ℤ) (t : Bool) → (is_within (10 ^ 24) b && t) ≡ true → IsWithin (10 ^ 24) b
 one_end b t e = within_is (10 ^ 24) b (and_parts (is_within (10 ^ 24) b) t e).0
 
-pub ends_are : (role : Role) (b : ℤ) (r : Option ℤ) → is_limited role ≡ true → (end_within (low_end role b r) && end_within (high_end role b r)) ≡ true → AreEnds (low_end role b r) (high_end role b r)
+pub ends_are : (role : Role) (b : ℤ) (r : Option ℤ) → is_limited role ≡ true
+    → (end_within (low_end role b r) && end_within (high_end role b r)) ≡ true
+    → AreEnds (low_end role b r) (high_end role b r)
 ends_are Objective b r l e = absurd cc
 ends_are Extra b r l e = absurd cc
 ends_are AtMost b None l e = within_is (10 ^ 24) b e
@@ -111,8 +129,12 @@ term_by true x f = absurd cc
 term_by false x f = refl
 
 -- one term that is too wide
-pub term_fails : (places : ℕ) (es : List Entry) (i : ℕ) (d : Entry) → i < length es → cond (term_within (term_of places (get_or es i d))) (Some (term_of places (get_or es i d))) None ≡ None → list_all term_within (terms_of places es) ≡ false
+pub term_fails : (places : ℕ) (es : List Entry) (i : ℕ) (d : Entry) → i < length es
+    → cond (term_within (term_of places (get_or es i d))) (Some (term_of places (get_or es i d)))
+    None ≡ None → list_all term_within (terms_of places es) ≡ false
 term_fails places es i d l e =
     let wide = length-map es (term_of places) in
     let at = get_or-map (term_of places) es i d (term_of places d) l in
-    list_all_at term_within (terms_of places es) i (term_of places d) (omega (arith, l, wide)) (ap term_within at ∙ term_by (term_within (term_of places (get_or es i d))) (term_of places (get_or es i d)) e)
+    list_all_at term_within (terms_of places es) i (term_of places d) (omega (arith, l, wide))
+    (ap term_within at ∙ term_by (term_within (term_of places (get_or es i d)))
+    (term_of places (get_or es i d)) e)

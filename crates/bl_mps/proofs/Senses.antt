@@ -14,11 +14,13 @@ size_kept : (z : ℤ) → nat_abs (neg_ℤ z) ≡ nat_abs z
 size_kept z = omega (arith, ints)
 
 -- a number and its negative keep the same limit
-pub sense_within : (sense : Sense) (limit : ℕ) (z : ℤ) → is_within limit (in_sense sense z) ≡ is_within limit z
+pub sense_within : (sense : Sense) (limit : ℕ) (z : ℤ) → is_within limit (in_sense sense z)
+    ≡ is_within limit z
 sense_within Min limit z = refl
 sense_within Max limit z = ap (λ (n : ℕ). nat_le n limit) (size_kept z)
 
-pub sense_small : (sense : Sense) (limit : ℕ) (z : ℤ) → IsWithin limit z → IsWithin limit (in_sense sense z)
+pub sense_small : (sense : Sense) (limit : ℕ) (z : ℤ) → IsWithin limit z
+    → IsWithin limit (in_sense sense z)
 sense_small Min limit z h = h
 sense_small Max limit z h = omega (arith, ints, h)
 

@@ -1,5 +1,6 @@
 -- What the reading comes to, in other words.
-use Rattle.std.specs.Prelude.{◌≡◌, ◌≢◌, ◌⊎◌, ◌↔◌, ℕ, ◌^◌, ◌≤◌, true, length, List, All, Some, Ok, Err, ℤ, pos, ◌+ℤ◌, ◌*ℤ◌, ◌≤ℤ◌, nat_abs}
+use Rattle.std.specs.Prelude.{◌≡◌, ◌≢◌, ◌⊎◌, ◌↔◌, ℕ, ◌^◌, ◌≤◌, true, length, List, All, Some, Ok}
+use Rattle.std.specs.Prelude.{Err, ℤ, pos, ◌+ℤ◌, ◌*ℤ◌, ◌≤ℤ◌, nat_abs}
 use Rattle.bl_num.specs.declared.Decimal.{Decimal}
 use Rattle.bl_text.specs.Pieces.{lines_of}
 use Rattle.bl_num.specs.Exact.{at, sum_below}
@@ -19,7 +20,8 @@ use Rattle.bl_cards.specs.Named.{IsNamedByLines}
 use Rattle.bl_cards.specs.Sets.{AreGivenByLines}
 use Rattle.bl_cards.specs.Senses.{IsAskedByLines}
 use Rattle.bl_cards.specs.Laws.{LineBreaks, EndIsMissing, Ends}
-use Rattle.bl_mps.specs.Meaning.{RowSaid, IsRowRead, or_zero, places_of, low_end, high_end, sense_for, objective_of, program_of, finished}
+use Rattle.bl_mps.specs.Meaning.{RowSaid, IsRowRead, or_zero, places_of, low_end, high_end}
+use Rattle.bl_mps.specs.Meaning.{sense_for, objective_of, program_of, finished}
 use Rattle.bl_mps.specs.Reading.{read_of}
 
 -- ---- the first fault
@@ -41,14 +43,21 @@ pub record Means (start : Said) (lines : List (List ℕ)) (p : Program) : Type 0
   pub asked : IsAskedByLines lines said
   pub meaning : finished said ≡ Ok p
 
--- a fault that is told is the first
-abbrev pub TellsFirstFault : Type 0
-TellsFirstFault = (bytes : List ℕ) (f : Fault) → read_of bytes ≡ Err f →
-    LineBreaks nothing_said (lines_of bytes) f.line f.what ⊎ EndIsMissing nothing_said (lines_of bytes) f.line f.what ⊎ WholeBreaks nothing_said (lines_of bytes) f.line f.what
+-- this is the first fault: of a line, of there being no ENDATA line, or of the whole
+abbrev pub IsFirstFault : List (List ℕ) → ℕ → What → Type 0
+IsFirstFault lines line w = LineBreaks nothing_said lines line w
+    ⊎ EndIsMissing nothing_said lines line w ⊎ WholeBreaks nothing_said lines line w
 
--- a problem that is read is what the sections' lines say, with no fault before or at the ENDATA line
+-- a fault that is told is the first, and a first fault is told
+abbrev pub TellsFirstFault : Type 0
+TellsFirstFault = (bytes : List ℕ) (f : Fault) → (read_of bytes ≡ Err f)
+    ↔ IsFirstFault (lines_of bytes) f.line f.what
+
+-- a problem that is read is what the sections' lines say, with no fault before or at the ENDATA
+-- line; and a problem that they say is read
 abbrev pub TellsMeaning : Type 0
-TellsMeaning = (bytes : List ℕ) (p : Program) → read_of bytes ≡ Ok p → Means nothing_said (lines_of bytes) p
+TellsMeaning = (bytes : List ℕ) (p : Program) → (read_of bytes ≡ Ok p)
+    ↔ Means nothing_said (lines_of bytes) p
 
 -- every file has a problem or a fault, and none has both
 abbrev pub IsOne : Type 0
@@ -58,7 +67,8 @@ IsOne = (bytes : List ℕ) →
 
 -- ---- rows
 
--- the right side is the high end of a row of kind L, the low end of one of kind G, and of one of kind E the low end exactly where the range is not negative
+-- the right side is the high end of a row of kind L, the low end of one of kind G, and of one of
+-- kind E the low end exactly where the range is not negative
 abbrev pub StandsAt : Role → ℤ → ℤ → ℤ → ℤ → Type 0
 StandsAt Objective b r low high = ⊥
 StandsAt Extra b r low high = ⊥
@@ -98,11 +108,13 @@ ScaleIsLeast = (r : RowSaid) (n : ℕ) → IsRowRead r → (AreWholeIn n r ↔ (
 
 -- the file's objective at a point: its constant, and the sum of its numbers times the entries
 abbrev pub file_value : Said → List ℤ → ℤ
-file_value s x = (objective_of s).offset +ℤ sum_below (length s.columns.names) (λ j. coefficient_of (objective_of s).costs j *ℤ at x j)
+file_value s x = (objective_of s).offset +ℤ sum_below (length s.columns.names)
+    (λ j. coefficient_of (objective_of s).costs j *ℤ at x j)
 
 -- a point's value is shown as the file's objective has it
 abbrev pub ShowsFileValues : Type 0
-ShowsFileValues = (s : Said) (x : List ℤ) → shown_of (program_of s) (value_of (program_of s) x) ≡ file_value s x
+ShowsFileValues = (s : Said) (x : List ℤ) → shown_of (program_of s) (value_of (program_of s) x)
+    ≡ file_value s x
 
 -- at least as good as another, in the sense of the file
 abbrev pub IsAsGood : Sense → ℤ → ℤ → Type 0
@@ -111,4 +123,6 @@ IsAsGood Max v w = w ≤ℤ v
 
 -- less value is what the file asks for
 abbrev pub LessIsBetter : Type 0
-LessIsBetter = (s : Said) (x y : List ℤ) → (value_of (program_of s) x ≤ℤ value_of (program_of s) y) ↔ IsAsGood (sense_for s) (file_value s x) (file_value s y)
+LessIsBetter = (s : Said) (x y : List ℤ)
+    → (value_of (program_of s) x ≤ℤ value_of (program_of s) y)
+    ↔ IsAsGood (sense_for s) (file_value s x) (file_value s y)

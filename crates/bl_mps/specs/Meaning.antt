@@ -1,5 +1,8 @@
 -- The problem that was said.
-use Rattle.std.specs.Prelude.{ℕ, suc, All, ◌^◌, max, Bool, true, false, not, ◌&&◌, ◌||◌, ◌==◌, nat_le, if◌then◌else◌, List, [], ◌∷◌, map, filter, fold, Option, Some, None, is_some, option_map, Result, Ok, Err, ℤ, pos, negsuc, ◌+ℤ◌, ◌-ℤ◌, neg_ℤ, nat_abs, int_lt}
+use Rattle.std.specs.Prelude.{ℕ, suc, All, ◌^◌, max, Bool, true, false, not, ◌&&◌, ◌||◌, ◌==◌}
+use Rattle.std.specs.Prelude.{nat_le, if◌then◌else◌, List, [], ◌∷◌, map, filter, fold, Option}
+use Rattle.std.specs.Prelude.{Some, None, is_some, option_map, Result, Ok, Err, ℤ, pos, negsuc}
+use Rattle.std.specs.Prelude.{◌+ℤ◌, ◌-ℤ◌, neg_ℤ, nat_abs, int_lt}
 use Rattle.std.specs.List.{list_all}
 use Rattle.bl_num.specs.declared.Decimal.{Decimal}
 use Rattle.bl_num.specs.Decimals.{in_units}
@@ -21,7 +24,8 @@ use Rattle.bl_mps.specs.declared.finish.ScaledObjective.{ScaledObjective}
 use Rattle.bl_cards.specs.declared.kind.Act.{Act}
 use Rattle.bl_cards.specs.declared.kind.Act.TheVariants as act
 use Rattle.bl_cards.specs.Said.{same, RowLine, Cell, Card, Said, ◌>>=◌, refuse}
-use Rattle.bl_cards.specs.Lines.{nothing_given, is_limited, has_objective, objective_in, given_for, sense_or_min}
+use Rattle.bl_cards.specs.Lines.{nothing_given, is_limited, has_objective, objective_in}
+use Rattle.bl_cards.specs.Lines.{given_for, sense_or_min}
 use Rattle.bl_cards.specs.Coherence.{IsRead}
 
 -- ---- rows
@@ -65,7 +69,8 @@ said_of s name =
 
 -- the least power of ten that makes the row whole
 abbrev pub places_of : RowSaid → ℕ
-places_of r = max (fold (λ n e. max n e.number.places) 0 r.entries) (max r.right.places (or_zero r.range).places)
+places_of r = max (fold (λ n e. max n e.number.places) 0 r.entries)
+    (max r.right.places (or_zero r.range).places)
 
 abbrev pub size : ℤ → ℤ
 size z = pos (nat_abs z)
@@ -146,7 +151,10 @@ objective_of s = objective_in_units (objective_in s.rows) (objective_said s)
 
 -- an upper bound; a negative one takes a low end away that no card has given
 abbrev pub lowered : Ends → ℤ → Ends
-lowered e n = record e { low = (if int_lt n (pos 0) && not e.low_is_said then None else e.low); high = Some n }
+lowered e n = record e {
+  low = (if int_lt n (pos 0) && not e.low_is_said then None else e.low);
+  high = Some n;
+}
 
 abbrev pub raised : Ends → ℤ → Ends
 raised e n = record e { low = Some n; low_is_said = true }
@@ -163,7 +171,13 @@ set_ends act.Both e n = record e { low = Some n; high = Some n; low_is_said = tr
 set_ends act.Free e n = record e { low = None; high = None; low_is_said = true }
 set_ends act.NoLow e n = record e { low = None; low_is_said = true }
 set_ends act.NoHigh e n = record e { high = None }
-set_ends act.Binary e n = record { low = Some (pos 0); high = Some (pos 1); low_is_said = true; is_whole = true }
+set_ends act.Binary e n = record {
+  low = Some (pos 0);
+  high = Some (pos 1);
+  low_is_said =
+      true;
+  is_whole = true;
+}
 
 abbrev pub acted : Ends → Card → Ends
 acted e c = set_ends c.act e c.number
@@ -205,12 +219,19 @@ end_or_zero (Some n) = n
 -- the cost is the objective's in the problem's sense
 abbrev pub column_of : Said → List Term → ℕ → List ℕ → Column
 column_of s costs j name =
-    record { name = name; low = end_or_zero (ends_for s name).low; high = end_or_zero (ends_for s name).high; cost = in_sense (sense_for s) (coefficient_of costs j) }
+    record {
+      name = name;
+      low = end_or_zero (ends_for s name).low;
+      high =
+          end_or_zero (ends_for s name).high;
+      cost = in_sense (sense_for s) (coefficient_of costs j);
+    }
 
 -- the columns from place j on
 abbrev pub columns_from : Said → List Term → ℕ → List (List ℕ) → List Column
 columns_from s costs j [] = []
-columns_from s costs j (name ∷ names) = column_of s costs j name ∷ columns_from s costs (suc j) names
+columns_from s costs j (name ∷ names) = column_of s costs j name
+    ∷ columns_from s costs (suc j) names
 
 -- the ends that the cards of each column set
 abbrev pub all_ends : Said → List (Option Ends)
@@ -259,7 +280,8 @@ row_within r = list_all term_within r.terms && (end_within r.low && end_within r
 -- the scaled numbers are within the limits
 abbrev pub keeps_limits : Program → Bool
 keeps_limits p =
-    (list_all (λ c. is_within (10 ^ 15) c.cost) p.columns && is_within (10 ^ 24) p.offset) && list_all row_within p.rows
+    (list_all (λ c. is_within (10 ^ 15) c.cost) p.columns && is_within (10 ^ 24) p.offset)
+    && list_all row_within p.rows
 
 -- what does not keep the limits is too wide
 abbrev pub limited : {A : Type 0} → (A → Bool) → A → Result A What

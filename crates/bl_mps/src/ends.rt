@@ -1,7 +1,9 @@
 //! The ends of each column.
-ghost use Rattle.std.specs.Prelude.{◌≡◌, map, length, IfOk, replicate, None, Some, List, [], ◌∷◌, ◌++◌, pos};
+ghost use Rattle.std.specs.Prelude.{◌≡◌, map, length, IfOk, replicate, None, Some, List, [], ◌∷◌};
+ghost use Rattle.std.specs.Prelude.{◌++◌, pos};
 ghost use Rattle.bl_cards.specs.Said.{Card};
-ghost use Rattle.bl_mps.specs.Meaning.{acted, ends_set, ends_or, unset, binary, lowered, raised, as_whole, set_ends};
+ghost use Rattle.bl_mps.specs.Meaning.{acted, ends_set, ends_or, unset, binary, lowered, raised};
+ghost use Rattle.bl_mps.specs.Meaning.{as_whole, set_ends};
 ghost use Rattle.bl_cards.specs.Views.{card_of};
 
 use bl_cards::{Act, BoundCard, Names};

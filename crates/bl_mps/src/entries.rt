@@ -1,5 +1,6 @@
 //! The numbers of each row.
-ghost use Rattle.std.specs.Prelude.{◌≡◌, ◌<◌, ℕ, map, length, IfOk, OnOk, List, [], ◌∷◌, ◌++◌, replicate, None, Some, if◌then◌else◌};
+ghost use Rattle.std.specs.Prelude.{◌≡◌, ◌<◌, ℕ, map, length, IfOk, OnOk, List, [], ◌∷◌, ◌++◌};
+ghost use Rattle.std.specs.Prelude.{replicate, None, Some, if◌then◌else◌};
 ghost use Rattle.bl_cards.specs.Said.{Cell};
 ghost use Rattle.bl_num.specs.Exact.{at};
 ghost use Rattle.bl_problem.specs.Rows.{coefficient_of};
@@ -25,7 +26,8 @@ pub fn row_entries(
     names: &Names<'_>,
     cells: &[RowCell<'_>],
 ) -> Result<Vec<Items<Entry>>, AllocError>
-    ensures { IfOk result (λ entries. entries.items ≡ map (entries_of (map cell_of cells.now)) names.now) }
+    ensures { IfOk result (λ entries. entries.items ≡ map (entries_of (map cell_of cells.now))
+        names.now) }
 {
     let mut entries = no_entries(alloc, names.len())?;
     for cell in cells {
@@ -52,7 +54,8 @@ fn put_entry(
     cell: &RowCell<'_>,
 ) -> Result<(), AllocError>
     ensures { (cells : List Cell) → entries.old.items ≡ map (entries_of cells) names.now
-        → OnOk result (entries.new.items ≡ map (entries_of (cells ++ cell_of cell.now ∷ [])) names.now) }
+        → OnOk result (entries.new.items ≡ map (entries_of (cells ++ cell_of cell.now ∷ []))
+        names.now) }
 {
     let Some(entry) = nonzero(cell) else {
         return Ok(());
@@ -68,7 +71,8 @@ fn put_entry(
 
 /// The entry of a number, none for a zero.
 fn nonzero(cell: &RowCell<'_>) -> Option<Entry>
-    ensures { result ≡ (if is_zero cell.now.number then None else Some (entry_of (cell_of cell.now))) }
+    ensures { result ≡ (if is_zero cell.now.number then None
+        else Some (entry_of (cell_of cell.now))) }
 {
     if cell.number.mantissa == 0 {
         return None;
@@ -82,7 +86,8 @@ fn nonzero(cell: &RowCell<'_>) -> Option<Entry>
 /// The coefficient of each column, 0 where no term has it.
 pub fn dense(alloc: Global, terms: &[Term], columns: usize) -> Result<Vec<i64>, AllocError>
     ensures width { IfOk result (λ numbers. length numbers.items ≡ columns) }
-    ensures numbers { IfOk result (λ numbers. (j : ℕ) → j < columns → at numbers.items j ≡ coefficient_of terms.now j) }
+    ensures numbers { IfOk result (λ numbers. (j : ℕ) → j < columns → at numbers.items j
+        ≡ coefficient_of terms.now j) }
 {
     let mut numbers = vec![in alloc; 0i64; columns]?;
     let mut left = terms.len();

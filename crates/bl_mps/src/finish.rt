@@ -1,10 +1,16 @@
 //! The problem that a file said.
-ghost use Rattle.std.specs.Prelude.{◌≡◌, ◌≢◌, ◌≤◌, ◌<◌, ◌^◌, All, nat_abs, [], length, map, List, slice_index_or, true, IfOk, None, Ok, ◌||◌};
+ghost use Rattle.std.specs.Prelude.{◌≡◌, ◌≢◌, ◌≤◌, ◌<◌, ◌^◌, All, nat_abs, [], length, map, List};
+ghost use Rattle.std.specs.Prelude.{slice_index_or, true, IfOk, None, Ok, ◌||◌};
 ghost use Rattle.std.specs.List.{list_all};
 ghost use Rattle.bl_num.specs.Exact.{at};
 ghost use Rattle.bl_cards.specs.Said.{RowLine};
 ghost use Rattle.bl_cards.specs.Lines.{is_limited, has_objective, objective_in};
-ghost use Rattle.bl_mps.specs.Meaning.{finished, limited, keeps_limits, program_of, has_ends, ends_or, binary, ends_set, end_or_zero, column_of, columns_from, entries_of, row_in, row_of, row_within, rows_of, places_of, objective_of, objective_in_units, term_within, objective_within, all_ends, are_whole, are_bounded, IsRowRead};
+ghost use Rattle.bl_mps.specs.Meaning.{finished, limited, keeps_limits, program_of, has_ends};
+ghost use Rattle.bl_mps.specs.Meaning.{ends_or, binary, ends_set, end_or_zero, column_of};
+ghost use Rattle.bl_mps.specs.Meaning.{columns_from, entries_of, row_in, row_of, row_within};
+ghost use Rattle.bl_mps.specs.Meaning.{rows_of, places_of, objective_of, objective_in_units};
+ghost use Rattle.bl_mps.specs.Meaning.{term_within, objective_within, all_ends, are_whole};
+ghost use Rattle.bl_mps.specs.Meaning.{are_bounded, IsRowRead};
 ghost use Rattle.bl_cards.specs.Coherence.{IsCoherent, AreRows};
 ghost use Rattle.bl_cards.specs.Views.{Gives};
 ghost use Rattle.bl_mps.specs.Views.{row_said};
@@ -44,7 +50,9 @@ fn make_row(
     requires name { name.now ≢ [] }
     requires limited { is_limited role ≡ true }
     requires read { IsRowRead (row_said entries.now right range) }
-    ensures { Gives result (limited row_within (row_in (places_of (row_said entries.now right range)) (record { name = name.now; role = role }) (row_said entries.now right range))) }
+    ensures { Gives result
+        (limited row_within (row_in (places_of (row_said entries.now right range))
+        (record { name = name.now; role = role }) (row_said entries.now right range))) }
 {
     let places = places_of(entries, right, range);
     let Some(ends) = row_ends(role, right, range, places) else {
@@ -70,9 +78,12 @@ fn row_at(
 ) -> Result<Row, LineFault>
     requires place { place < length reader.now.rows }
     requires coherent { IsCoherent reader.now }
-    requires limited { (d : RowLine) → is_limited (slice_index_or reader.now.rows place d).role ≡ true }
-    requires entries { (d : RowLine) → entries.now ≡ entries_of reader.now.columns.cells (slice_index_or reader.now.rows place d).name }
-    ensures { (d : RowLine) → Gives result (limited row_within (row_of reader.now (slice_index_or reader.now.rows place d))) }
+    requires limited { (d : RowLine) → is_limited (slice_index_or reader.now.rows place d).role
+        ≡ true }
+    requires entries { (d : RowLine) → entries.now
+        ≡ entries_of reader.now.columns.cells (slice_index_or reader.now.rows place d).name }
+    ensures { (d : RowLine) → Gives result
+        (limited row_within (row_of reader.now (slice_index_or reader.now.rows place d))) }
 {
     let name = reader.rows().name(place);
     let right = or_zero(reader.rhs().number(name));
@@ -87,14 +98,16 @@ fn row_at(
     )
 }
 
-/// The rows with ends, from the entries of each row. TooWide where a number of one is beyond the limits.
+/// The rows with ends, from the entries of each row. TooWide where a number of one is beyond the
+/// limits.
 fn make_rows(
     alloc: Global,
     reader: &Reader<'_>,
     entries: &[Items<Entry>],
 ) -> Result<Items<Row>, LineFault>
     requires coherent { IsCoherent reader.now }
-    requires entries { entries.now ≡ map (entries_of reader.now.columns.cells) (map (λ r. r.name) reader.now.rows) }
+    requires entries { entries.now ≡ map (entries_of reader.now.columns.cells)
+        (map (λ r. r.name) reader.now.rows) }
     ensures { Gives result (limited (list_all row_within) (rows_of reader.now)) }
 {
     let mut rows = Items::new(alloc);
@@ -141,10 +154,12 @@ fn column_at(
 ) -> Result<Column, AllocError>
     requires place { place < length reader.now.columns.names }
     requires names { All IsName reader.now.columns.names }
-    requires ends { ends ≡ ends_set reader.now.bounds.given (slice_index_or reader.now.columns.names place []) }
+    requires ends { ends ≡ ends_set reader.now.bounds.given
+        (slice_index_or reader.now.columns.names place []) }
     requires cost { nat_abs cost ≤ 10 ^ 15 }
     ensures { IfOk result (λ column. (costs : List Term) → cost ≡ coefficient_of costs place
-        → column ≡ column_of reader.now costs place (slice_index_or reader.now.columns.names place [])) }
+        → column ≡ column_of reader.now costs place
+        (slice_index_or reader.now.columns.names place [])) }
 {
     let ends = or_binary(ends);
     Ok(Column {
@@ -165,7 +180,8 @@ fn make_columns(
     requires names { All IsName reader.now.columns.names }
     requires ends { ends.now ≡ all_ends reader.now }
     requires within { list_all term_within objective.now ≡ true }
-    ensures { IfOk result (λ columns. columns.items ≡ columns_from reader.now objective.now 0 reader.now.columns.names) }
+    ensures { IfOk result (λ columns. columns.items ≡ columns_from reader.now objective.now 0
+        reader.now.columns.names) }
 {
     let count = reader.columns().names().len();
     let costs = dense(alloc, objective, count)?;
@@ -195,7 +211,8 @@ fn make_objective(
 ) -> Result<ScaledObjective, LineFault>
     requires name { name.now ≢ [] }
     requires read { IsRowRead (row_said entries.now right None) }
-    ensures { Gives result (limited objective_within (objective_in_units name.now (row_said entries.now right None))) }
+    ensures { Gives result (limited objective_within
+        (objective_in_units name.now (row_said entries.now right None))) }
 {
     let scale = places_of(entries, right, None);
     let Some(offset) = offset(right, scale) else {
@@ -221,8 +238,10 @@ fn objective_at(
 ) -> Result<ScaledObjective, LineFault>
     requires place { place < length reader.now.rows }
     requires coherent { IsCoherent reader.now }
-    requires name { (d : RowLine) → (slice_index_or reader.now.rows place d).name ≡ objective_in reader.now.rows }
-    requires entries { entries.now ≡ entries_of reader.now.columns.cells (objective_in reader.now.rows) }
+    requires name { (d : RowLine) → (slice_index_or reader.now.rows place d).name
+        ≡ objective_in reader.now.rows }
+    requires entries { entries.now
+        ≡ entries_of reader.now.columns.cells (objective_in reader.now.rows) }
     ensures { Gives result (limited objective_within (objective_of reader.now)) }
 {
     let name = reader.rows().name(place);
@@ -274,13 +293,14 @@ fn all_ends(alloc: Global, reader: &Reader<'_>) -> Result<Vec<Option<Ends>>, All
 
 /// The entries of each row.
 fn all_entries(alloc: Global, reader: &Reader<'_>) -> Result<Vec<Items<Entry>>, AllocError>
-    ensures { IfOk result (λ entries. entries.items ≡ map (entries_of reader.now.columns.cells) (map (λ r. r.name) reader.now.rows)) }
+    ensures { IfOk result (λ entries. entries.items ≡ map (entries_of reader.now.columns.cells)
+        (map (λ r. r.name) reader.now.rows)) }
 {
     row_entries(alloc, reader.rows().names(), reader.columns().cells())
 }
 
-/// The problem, from its objective in units, the ends of its columns and the entries of its rows. TooWide where a
-/// number is beyond the limits.
+/// The problem, from its objective in units, the ends of its columns and the entries of its
+/// rows. TooWide where a number is beyond the limits.
 fn build(
     alloc: Global,
     reader: &Reader<'_>,
@@ -292,7 +312,8 @@ fn build(
     requires some { has_objective reader.now.rows ≡ true }
     requires objective { limited objective_within (objective_of reader.now) ≡ Ok objective }
     requires ends { ends.now ≡ all_ends reader.now }
-    requires entries { entries.now ≡ map (entries_of reader.now.columns.cells) (map (λ r. r.name) reader.now.rows) }
+    requires entries { entries.now ≡ map (entries_of reader.now.columns.cells)
+        (map (λ r. r.name) reader.now.rows) }
     ensures { Gives result (limited keeps_limits (program_of reader.now)) }
 {
     match make_rows(alloc, reader, entries) {

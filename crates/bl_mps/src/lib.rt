@@ -1,12 +1,14 @@
-//! Reads a problem from an MPS file: what the lines of a file say (`bl_cards`) means a problem.
+//! Formats: reads a problem from an MPS file: what the lines of a file say (`bl_cards`) means a
+//! problem.
 //!
-//! `specs/Meaning.antt` says which problem what was said means, or which rule the whole breaks at the ENDATA line: rows
-//! and objective in units of the least power of ten that makes their numbers whole, the ends of rows by kind and range,
-//! the ends of columns by their cards. `specs/Reading.antt` says what bytes mean: what their lines say, and what that
-//! means, or the first fault. `specs/Laws.antt` says what this comes to, in other words.
+//! `specs/Meaning.antt` says which problem what was said means, or which rule the whole breaks
+//! at the ENDATA line: rows and objective in units of the least power of ten that makes their
+//! numbers whole, the ends of rows by kind and range, the ends of columns by their cards.
+//! `specs/Reading.antt` says what bytes mean: what their lines say, and what that means, or the
+//! first fault. `specs/Laws.antt` says what this comes to, in other words.
 //!
-//! `read` answers `Ok` with exactly the problem that the bytes mean, and `At` with exactly the first fault of the file
-//! and its line.
+//! `read` answers `Ok` with exactly the problem that the bytes mean, and `At` with exactly the
+//! first fault of the file and its line.
 #![tactic(auto)]
 
 ghost use Rattle.std.specs.Prelude.{◌+◌, ◌<◌, ◌^◌, length};
@@ -25,8 +27,9 @@ use bl_problem::Problem;
 use finish::finish;
 use std::alloc::Global;
 
-/// The problem that a file of fewer than 2^32 - 1 bytes means. `At` tells the first fault of the file and its line, and
-/// comes exactly where the file has one; `Memory` comes only for want of memory.
+/// The problem that a file of fewer than 2^32 - 1 bytes means. `At` tells the first fault of the
+/// file and its line, and comes exactly where the file has one; `Memory` comes only for want of
+/// memory.
 #[tactic(auto, unfolding(crate::specs::Reading::read_of, bl_cards::specs::Reading::said_in))]
 pub fn read(alloc: Global, bytes: &[u8]) -> Result<Problem, ModelFault>
     requires { length bytes.now + 1 < 2 ^ 32 }
@@ -137,8 +140,8 @@ mod tests {
         }
     }
 
-    /// What the table of problems looks at: the scale, the offset, the first column's bounds and cost, the first row's
-    /// ends.
+    /// What the table of problems looks at: the scale, the offset, the first column's bounds and
+    /// cost, the first row's ends.
     fn shape(problem: &Problem) -> (u32, i128, [i64; 3], Option<i128>, Option<i128>) {
         let mut column = [0, 0, 0];
         if !problem.columns().is_empty() {

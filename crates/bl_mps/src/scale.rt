@@ -1,9 +1,12 @@
 //! Numbers in units of the least power of ten that makes a row whole.
-ghost use Rattle.std.specs.Prelude.{◌≡◌, ◌≤◌, ◌<◌, ◌^◌, ◌*◌, All, map, true, if◌then◌else◌, Some, None, nat_abs, neg_ℤ, IfSome};
+ghost use Rattle.std.specs.Prelude.{◌≡◌, ◌≤◌, ◌<◌, ◌^◌, ◌*◌, All, map, true, if◌then◌else◌, Some};
+ghost use Rattle.std.specs.Prelude.{None, nat_abs, neg_ℤ, IfSome};
 ghost use Rattle.std.specs.List.{list_all};
 ghost use Rattle.bl_num.specs.Decimals.{in_units};
 ghost use Rattle.bl_cards.specs.Lines.{is_limited};
-ghost use Rattle.bl_mps.specs.Meaning.{RowSaid, places_of, or_zero, term_of, terms_of, range_in, low_end, high_end, ends_of, size, is_within, term_within, end_within, limited, IsRowRead};
+ghost use Rattle.bl_mps.specs.Meaning.{RowSaid, places_of, or_zero, term_of, terms_of, range_in};
+ghost use Rattle.bl_mps.specs.Meaning.{low_end, high_end, ends_of, size, is_within, term_within};
+ghost use Rattle.bl_mps.specs.Meaning.{end_within, limited, IsRowRead};
 ghost use Rattle.bl_cards.specs.Views.{Gives};
 ghost use Rattle.bl_mps.specs.Views.{row_said, within, ends_within};
 
@@ -66,7 +69,8 @@ fn units(number: Decimal, places: u32, limit: u128) -> Option<i128>
 fn term(entry: &Entry, places: u32) -> Option<Term>
     requires finer { entry.now.number.places ≤ places }
     requires few { places ≤ 27 }
-    ensures { result ≡ (if term_within (term_of places entry.now) then Some (term_of places entry.now) else None) }
+    ensures { result ≡ (if term_within (term_of places entry.now)
+        then Some (term_of places entry.now) else None) }
 {
     let coefficient = units(entry.number, places, WIDEST_COEFFICIENT)?;
     Some(Term {
@@ -147,7 +151,8 @@ fn is_end_within(end: Option<i128>) -> bool
     }
 }
 
-/// The ends of a row from its right side and its range in units, or None where an end is beyond ±10^24.
+/// The ends of a row from its right side and its range in units, or None where an end is beyond
+/// ±10^24.
 fn ends_by(role: Role, right: i128, range: Option<i128>) -> Option<RowEnds>
     requires right { nat_abs right ≤ 10 ^ 24 }
     requires range { IfSome range (λ r. nat_abs r ≤ 2 * 10 ^ 24) }

@@ -1,2 +1,2 @@
-pub mod Lines
-pub mod Signs
+mod Lines
+mod Signs

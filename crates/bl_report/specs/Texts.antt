@@ -1,12 +1,16 @@
 -- The texts that a run writes.
-use Rattle.std.specs.Prelude.{ℕ, Bool, true, false, List, [], ◌∷◌, ◌++◌, ℤ, pos, codes, ◌==◌, if◌then◌else◌, Option, Some, None}
+use Rattle.std.specs.Prelude.{ℕ, Bool, true, false, List, [], ◌∷◌, ◌++◌, ℤ, pos, codes, ◌==◌}
+use Rattle.std.specs.Prelude.{if◌then◌else◌, Option, Some, None}
 use Rattle.std.specs.Fmt.{decimal, signed_decimal}
 use Rattle.bl_num.specs.Texts.{text_of}
 use Rattle.bl_problem.specs.declared.problem.Column.{Column}
 use Rattle.bl_problem.specs.Program.{Program}
 use Rattle.bl_problem.specs.Points.{shown_of}
 use Rattle.bl_cards.specs.declared.kind.What.{What}
-use Rattle.bl_cards.specs.declared.kind.What.TheVariants.{Section, Words, Number, TooWide, UnknownRow, UnknownColumn, Twice, NotWhole, Unbounded, FractionBound, TooMany, NoObjective, Marker, NoEnd}
+use Rattle.bl_cards.specs.declared.kind.What.TheVariants.{Section, Words, Number, TooWide}
+use Rattle.bl_cards.specs.declared.kind.What.TheVariants.{UnknownRow, UnknownColumn, Twice}
+use Rattle.bl_cards.specs.declared.kind.What.TheVariants.{NotWhole, Unbounded, FractionBound}
+use Rattle.bl_cards.specs.declared.kind.What.TheVariants.{TooMany, NoObjective, Marker, NoEnd}
 use Rattle.bl_cards.specs.Reading.{Fault}
 use Rattle.bl_journal.specs.States.{Found}
 use Rattle.bl_journal.specs.Results.{Verdict, optimal, within, infeasible, bounded}

@@ -1,24 +1,29 @@
 //! The text of an answer.
-ghost use Rattle.std.specs.Prelude.{◌≡◌, ◌++◌, ◌≤◌, ◌-◌, ◌^◌, negsuc, length, drop, codes, IfOk, OnOk};
+ghost use Rattle.std.specs.Prelude.{◌≡◌, ◌++◌, ◌≤◌, ◌-◌, ◌^◌, negsuc, length, drop, codes, IfOk};
+ghost use Rattle.std.specs.Prelude.{OnOk};
 ghost use Rattle.std.specs.Fmt.{signed_decimal};
 ghost use Rattle.bl_num.specs.Texts.{text_of};
 ghost use Rattle.bl_problem.specs.Points.{shown_of};
 ghost use Rattle.bl_tree.specs.Answers.{verdict_of, found_if};
-ghost use Rattle.bl_report.specs.Texts.{column_lines, column_line, shown_columns, value_line, found_lines, best_lines, verdict_text};
+ghost use Rattle.bl_report.specs.Texts.{column_lines, column_line, shown_columns, value_line};
+ghost use Rattle.bl_report.specs.Texts.{found_lines, best_lines, verdict_text};
 
 use bl_num::decimal_text;
 use bl_problem::{Column, Problem, Sense};
 use bl_tree::{Answer, Best};
 use std::alloc::{AllocError, Global};
 
-/// The lines of an answer, `status` first and `end` last, with its values in the file's sense and with a line for each column of its point where they are wanted. `AllocError` where there is no memory.
+/// The lines of an answer, `status` first and `end` last, with its values in the file's sense
+/// and with a line for each column of its point where they are wanted. `AllocError` where there
+/// is no memory.
 pub fn answer_text(
     alloc: Global,
     problem: &Problem,
     answer: &Answer<'_>,
     with_columns: bool,
 ) -> Result<Vec<u8>, AllocError>
-    ensures { IfOk result (λ text. text.items ≡ verdict_text problem.now with_columns (verdict_of answer.now)) }
+    ensures { IfOk result (λ text. text.items
+        ≡ verdict_text problem.now with_columns (verdict_of answer.now)) }
 {
     let mut text = Vec::new(alloc);
     match answer {
@@ -53,7 +58,8 @@ fn push_best(
     best: &Option<Best<'_>>,
     with_columns: bool,
 ) -> Result<(), AllocError>
-    ensures { OnOk result (text.new.items ≡ text.old.items ++ best_lines problem.now with_columns (found_if best.now)) }
+    ensures { OnOk result (text.new.items ≡ text.old.items
+        ++ best_lines problem.now with_columns (found_if best.now)) }
 {
     match best {
         None => text.extend_from_slice(b"objective none\n"),
@@ -69,7 +75,8 @@ fn push_found(
     point: &[i64],
     with_columns: bool,
 ) -> Result<(), AllocError>
-    ensures { OnOk result (text.new.items ≡ text.old.items ++ found_lines problem.now with_columns (record { value = value; point = point.now })) }
+    ensures { OnOk result (text.new.items ≡ text.old.items
+        ++ found_lines problem.now with_columns (record { value = value; point = point.now })) }
 {
     text.extend_from_slice(b"objective ")?;
     push_value(alloc, text, problem, value)?;
@@ -84,7 +91,8 @@ fn push_shown(
     point: &[i64],
     with_columns: bool,
 ) -> Result<(), AllocError>
-    ensures { OnOk result (text.new.items ≡ text.old.items ++ shown_columns with_columns columns.now point.now) }
+    ensures { OnOk result (text.new.items ≡ text.old.items
+        ++ shown_columns with_columns columns.now point.now) }
 {
     if with_columns {
         push_columns(alloc, text, columns, point)
@@ -109,7 +117,8 @@ fn push_value(
 
 // The text of a value in the file's sense, in units of 10^-scale.
 fn value_text(alloc: Global, problem: &Problem, value: i128) -> Result<Vec<u8>, AllocError>
-    ensures { IfOk result (λ text. text.items ≡ text_of (shown_of problem.now value) problem.now.scale) }
+    ensures { IfOk result (λ text. text.items
+        ≡ text_of (shown_of problem.now value) problem.now.scale) }
 {
     let _columns = problem.columns();
     if value == i128::MIN {
@@ -120,10 +129,12 @@ fn value_text(alloc: Global, problem: &Problem, value: i128) -> Result<Vec<u8>, 
     Ok(number)
 }
 
-// The text of the least value of its type in the file's sense. Its negative has the same digits, and no sign.
+// The text of the least value of its type in the file's sense. Its negative has the same digits,
+// and no sign.
 #[tactic(auto, using(crate::proofs::Signs::signless))]
 fn least_text(alloc: Global, problem: &Problem) -> Result<Vec<u8>, AllocError>
-    ensures { IfOk result (λ text. text.items ≡ text_of (shown_of problem.now (negsuc (2 ^ 127 - 1))) problem.now.scale) }
+    ensures { IfOk result (λ text. text.items
+        ≡ text_of (shown_of problem.now (negsuc (2 ^ 127 - 1))) problem.now.scale) }
 {
     let _columns = problem.columns();
     let text = decimal_text(alloc, i128::MIN, problem.scale())?;

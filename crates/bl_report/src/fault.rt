@@ -6,7 +6,8 @@ use crate::answer::push_number;
 use bl_cards::What;
 use std::alloc::{AllocError, Global};
 
-/// The line that tells a file's first fault: `fault model line L WHAT`. `AllocError` where there is no memory.
+/// The line that tells a file's first fault: `fault model line L WHAT`. `AllocError` where there
+/// is no memory.
 pub fn model_line(alloc: Global, line: u32, what: What) -> Result<Vec<u8>, AllocError>
     ensures { IfOk result (λ text. text.items ≡ model_line (record { line = line; what = what })) }
 {

@@ -4,7 +4,8 @@ ghost use Rattle.bl_report.specs.Texts.{held_line};
 
 use std::alloc::{AllocError, Global};
 
-/// The line that tells how many entries the stored pieces have: `held N`. `AllocError` where there is no memory.
+/// The line that tells how many entries the stored pieces have: `held N`. `AllocError` where
+/// there is no memory.
 pub fn held_line(alloc: Global, held: u64) -> Result<Vec<u8>, AllocError>
     ensures { IfOk result (λ text. text.items ≡ held_line held) }
 {

@@ -1,4 +1,4 @@
-//! The texts of answers and of faults.
+//! Formats: the texts of answers and of faults.
 #![tactic(auto)]
 
 mod answer;

@@ -1,8 +1,8 @@
-pub mod Steps
-pub mod Walked
-pub mod Whole
-pub mod Spelled
-pub mod Getters
-pub mod Meaning
-pub mod Judging
-pub mod Ranges
+mod Steps
+mod Walked
+mod Whole
+mod Spelled
+mod Getters
+mod Meaning
+mod Judging
+mod Ranges

@@ -1,10 +1,13 @@
 -- What a list of words asks for.
-use Rattle.std.specs.Prelude.{◌≡◌, ◌≤◌, ◌<◌, ◌^◌, ◌&&◌, ℕ, pos, Bool, true, false, List, codes, Option, Some, None, IfSome, if◌then◌else◌}
+use Rattle.std.specs.Prelude.{◌≡◌, ◌≤◌, ◌<◌, ◌^◌, ◌&&◌, ℕ, pos, Bool, true, false, List, codes}
+use Rattle.std.specs.Prelude.{Option, Some, None, IfSome, if◌then◌else◌}
 use Rattle.std.specs.Str.{bytes_eq}
 use Rattle.bl_pool.specs.declared.key.Order.{Order}
 use Rattle.bl_pool.specs.declared.key.Order.TheVariants.{Best, Depth}
 use Rattle.bl_cover.specs.declared.separator.CutKinds.{CutKinds}
 use Rattle.bl_cover.specs.declared.separator.CutKinds.TheVariants.{Rows, Covers, Both}
+use Rattle.bl_journal.specs.declared.limits.TheConstants.{MOST_NODES, MOST_SPAN, MOST_WORKERS}
+use Rattle.bl_words.specs.declared.wish.TheConstants.{MOST_GAP}
 use Rattle.bl_words.specs.Words.{Spell, Text, Use, has, number_in, number_or, options, value_of}
 use Rattle.bl_words.specs.declared.wish.Wish.{Wish}
 use Rattle.bl_words.specs.declared.wish.GenWish.{GenWish}
@@ -27,7 +30,8 @@ cuts_of (Some text) =
     if bytes_eq text (codes "both") then Some Both else None
 
 abbrev pub both_sizes : ℕ → Option ℕ → Option ℕ → Option (Option GenWish)
-both_sizes start (Some columns) (Some rows) = Some (Some (record { start = start; columns = columns; rows = rows }))
+both_sizes start (Some columns) (Some rows) =
+    Some (Some (record { start = start; columns = columns; rows = rows }))
 both_sizes start _ _ = None
 
 abbrev pub sizes_of : Option ℕ → Option ℕ → Option ℕ → Option (Option GenWish)
@@ -38,16 +42,18 @@ sizes_of (Some start) columns rows = both_sizes start columns rows
 abbrev pub generate_of : Option Text → Option Text → Option Text → Option (Option GenWish)
 generate_of None None None = Some None
 generate_of None _ _ = None
-generate_of (Some start) columns rows = sizes_of (number_in 0 2147483647 start) (number_or 1 1000 30 columns) (number_or 0 1000 10 rows)
+generate_of (Some start) columns rows =
+    sizes_of (number_in 0 2147483647 start) (number_or 1 1000 30 columns) (number_or 0 1000 10 rows)
 
--- the values that options have, and whether the flags stand, ask for this; each range and default stands here
+-- the values that options have, and whether the flags stand, ask for this; each range and
+-- default stands here
 pub record Asks (value : Text → Option Text) (write log : Bool) (w : Wish) : Type 0 where
-  pub workers : number_or 1 64 1 (value (codes "workers")) ≡ Some w.workers
-  pub nodes : number_or 0 100000 20000 (value (codes "nodes")) ≡ Some w.settings.nodes
-  pub span : number_or 1 64 8 (value (codes "span")) ≡ Some w.settings.span
+  pub workers : number_or 1 MOST_WORKERS 1 (value (codes "workers")) ≡ Some w.workers
+  pub nodes : number_or 0 MOST_NODES 20000 (value (codes "nodes")) ≡ Some w.settings.nodes
+  pub span : number_or 1 MOST_SPAN 8 (value (codes "span")) ≡ Some w.settings.span
   pub order : order_of (value (codes "order")) ≡ Some w.settings.order
   pub half : half_of (value (codes "branch")) ≡ Some w.half
-  pub gap : number_or 0 1000000000 0 (value (codes "gap")) ≡ Some w.gap
+  pub gap : number_or 0 MOST_GAP 0 (value (codes "gap")) ≡ Some w.gap
   pub cuts : cuts_of (value (codes "cuts")) ≡ Some w.cuts
   pub unscaled : w.settings.gap ≡ pos 0
   pub generate : generate_of (value (codes "gen")) (value (codes "columns")) (value (codes "rows")) ≡ Some w.generate
@@ -56,7 +62,8 @@ pub record Asks (value : Text → Option Text) (write log : Bool) (w : Wish) : T
   -- a problem that is written is not searched, so there is no log
   pub apart : (write && log) ≡ false
 
--- the words after the name of a program mean this wish; `one` is true for the program without workers
+-- the words after the name of a program mean this wish; `one` is true for the program without
+-- workers
 pub record Means (one : Bool) (words : List Text) (w : Wish) : Type 0 where
   pub uses : List Use
   pub spelled : Spell (options one) words uses
@@ -76,10 +83,10 @@ pub record AreSizes (g : GenWish) : Type 0 where
 
 pub record IsWithinRanges (w : Wish) : Type 0 where
   pub some_workers : 1 ≤ w.workers
-  pub few_workers : w.workers ≤ 64
-  pub few_nodes : w.settings.nodes ≤ 100000
+  pub few_workers : w.workers ≤ MOST_WORKERS
+  pub few_nodes : w.settings.nodes ≤ MOST_NODES
   pub some_span : 1 ≤ w.settings.span
-  pub few_span : w.settings.span ≤ 64
-  pub few_gap : w.gap ≤ 1000000000
+  pub few_span : w.settings.span ≤ MOST_SPAN
+  pub few_gap : w.gap ≤ MOST_GAP
   pub unscaled : w.settings.gap ≡ pos 0
   pub sizes : IfSome w.generate AreSizes

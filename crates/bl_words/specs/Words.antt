@@ -1,5 +1,7 @@
 -- What the words after a program's name mean.
-use Rattle.std.specs.Prelude.{◌≡◌, ◌+◌, ◌-◌, ◌*◌, ◌==◌, ◌&&◌, ℕ, Bool, true, false, not, nat_le, List, [], ◌∷◌, ◌++◌, length, find, codes, Option, Some, None, option_map, option_and_then, if◌then◌else◌}
+use Rattle.std.specs.Prelude.{◌≡◌, ◌+◌, ◌-◌, ◌*◌, ◌==◌, ◌&&◌, ℕ, Bool, true, false, not, nat_le}
+use Rattle.std.specs.Prelude.{List, [], ◌∷◌, ◌++◌, length, find, codes, Option, Some, None}
+use Rattle.std.specs.Prelude.{option_map, option_and_then, if◌then◌else◌}
 use Rattle.std.specs.List.{list_any, before_first, after_first}
 use Rattle.std.specs.Str.{bytes_eq}
 
@@ -54,7 +56,8 @@ abbrev pub value_after : Text → Option Text
 value_after rest = if list_any is_equals rest then Some (after_first is_equals rest) else None
 
 abbrev pub said_after : Options → Text → Said
-said_after t rest = said_by (before_first is_equals rest) (value_after rest) (kind_in t (before_first is_equals rest))
+said_after t rest = said_by (before_first is_equals rest) (value_after rest)
+    (kind_in t (before_first is_equals rest))
 
 abbrev pub said_in : Options → Option Text → Said
 said_in t None = nothing
@@ -71,7 +74,8 @@ on_said (uses u) rest = and_then_uses u (rest None)
 on_said (waits name) rest = rest (Some name)
 on_said nothing rest = None
 
--- the uses that the words spell, read from the left, where an option waits for its value or none does
+-- the uses that the words spell, read from the left, where an option waits for its value or none
+-- does
 abbrev pub uses_from : Options → Option Text → List Text → Option (List Use)
 uses_from t None [] = Some []
 uses_from t (Some name) [] = None
@@ -84,7 +88,8 @@ is_named name u = bytes_eq u.0 name
 -- no use names an option that one before it names
 abbrev pub differ_after : List Use → List Use → Bool
 differ_after before [] = true
-differ_after before (u ∷ us) = not (list_any (is_named u.0) before) && differ_after (before ++ u ∷ []) us
+differ_after before (u ∷ us) = not (list_any (is_named u.0) before)
+    && differ_after (before ++ u ∷ []) us
 
 abbrev pub differ : List Use → Bool
 differ = differ_after []
@@ -112,7 +117,8 @@ in_range least most (Some n) = if nat_le least n && nat_le n most then Some n el
 
 -- the number from `least` to `most` that 1 to 10 digits spell
 abbrev pub number_in : ℕ → ℕ → Text → Option ℕ
-number_in least most text = if nat_le 1 (length text) && nat_le (length text) 10 then in_range least most (digits_from 0 text) else None
+number_in least most text = if nat_le 1 (length text) && nat_le (length text) 10
+    then in_range least most (digits_from 0 text) else None
 
 abbrev pub number_or : ℕ → ℕ → ℕ → Option Text → Option ℕ
 number_or least most otherwise None = Some otherwise

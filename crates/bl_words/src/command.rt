@@ -13,7 +13,8 @@ fn with_value<'a>(
     command: Command<'a>,
     name: &'a str,
 ) -> Result<Command<'a>, AllocError>
-    ensures { IfOk result (λ c. app_of c ≡ with_rule (app_of command.entry) (rule_for (name.now, true))) }
+    ensures { IfOk result (λ c. app_of c
+        ≡ with_rule (app_of command.entry) (rule_for (name.now, true))) }
 {
     command.arg(Arg::new(alloc, name).long(name).action(ArgAction::Set))
 }
@@ -24,7 +25,8 @@ fn with_flag<'a>(
     command: Command<'a>,
     name: &'a str,
 ) -> Result<Command<'a>, AllocError>
-    ensures { IfOk result (λ c. app_of c ≡ with_rule (app_of command.entry) (rule_for (name.now, false))) }
+    ensures { IfOk result (λ c. app_of c
+        ≡ with_rule (app_of command.entry) (rule_for (name.now, false))) }
 {
     command.arg(Arg::new(alloc, name).long(name).action(ArgAction::SetTrue))
 }

@@ -7,4 +7,4 @@ mod read;
 mod wish;
 
 pub use read::{WordsFault, read_words};
-pub use wish::{GenWish, Wish};
+pub use wish::{GenWish, MOST_GAP, Wish};

@@ -51,7 +51,8 @@ fn fault(error: &clap::Error) -> WordsFault
 pub fn read_words(alloc: Global, words: &[String], one: bool) -> Result<Wish, WordsFault>
     ensures meant { IfOk result (λ wish. Means one (map string_bytes words.now) wish) }
     ensures ranges { IfOk result IsWithinRanges }
-    ensures refused { result ≡ Err WordsFault.Refused → MeansNothing one (map string_bytes words.now) }
+    ensures refused { result ≡ Err WordsFault.Refused
+        → MeansNothing one (map string_bytes words.now) }
 {
     if has_stop(words) {
         return Err(WordsFault::Refused);

@@ -1,11 +1,12 @@
 //! What the words ask for.
 ghost use Rattle.std.specs.Prelude.{codes, ◌≡◌, ◌≤◌, length, option_map, IfSome, None};
 ghost use Rattle.bl_words.specs.Words.{digits_from, number_in, number_or};
-ghost use Rattle.bl_words.specs.Wishes.{Asks, IsWithinRanges, cuts_of, generate_of, half_of, order_of};
+ghost use Rattle.bl_words.specs.Wishes.{Asks, IsWithinRanges, cuts_of, generate_of, half_of};
+ghost use Rattle.bl_words.specs.Wishes.{order_of};
 ghost use Rattle.clap.specs.Words.{first_value, found_of};
 
 use bl_cover::CutKinds;
-use bl_journal::{Order, Settings};
+use bl_journal::{MOST_NODES, MOST_SPAN, MOST_WORKERS, Order, Settings};
 use clap::ArgMatches;
 
 /// A problem that is to be made from a number.
@@ -22,14 +23,15 @@ pub struct GenWish {
 /// What the words ask for.
 #[derive(Clone, Copy, Debug, PartialEq, Eq)]
 pub struct Wish {
-    /// 1 to 64.
+    /// 1 to `MOST_WORKERS`.
     pub workers: u32,
-    /// How many nodes may be used, how they are stored, and in which order they are taken. Its gap is
-    /// 0 until the problem's scale is known.
+    /// How many nodes may be used, how they are stored, and in which order they are taken. Its
+    /// gap is 0 until the problem's scale is known.
     pub settings: Settings,
-    /// Whether each split is in the middle of the widest column, and not by the fractions of a proposal.
+    /// Whether each split is in the middle of the widest column, and not by the fractions of a
+    /// proposal.
     pub half: bool,
-    /// By how many whole units of the objective a point may fail to be optimal: at most 10^9.
+    /// By how many whole units of the objective a point may fail to be optimal: at most `MOST_GAP`.
     pub gap: u32,
     /// Which cuts are proposed at a node.
     pub cuts: CutKinds,
@@ -37,26 +39,21 @@ pub struct Wish {
     pub generate: Option<GenWish>,
     /// Whether the problem is to be written as text, and not to be solved.
     pub write: bool,
-    /// Whether the journal of the search and what its tree holds are told before the answer. Not with
-    /// `write`.
+    /// Whether the journal of the search and what its tree holds are told before the answer. Not
+    /// with `write`.
     pub log: bool,
 }
 
 const WORKERS: u32 = 1;
 
-const MOST_WORKERS: u32 = 64;
-
 const NODES: u32 = 20_000;
-
-const MOST_NODES: u32 = 100_000;
 
 const SPAN: u32 = 8;
 
-const MOST_SPAN: u32 = 64;
-
 const GAP: u32 = 0;
 
-const MOST_GAP: u32 = 1_000_000_000;
+/// The largest gap that words may ask for, in whole units of the objective.
+pub const MOST_GAP: u32 = 1_000_000_000;
 
 const MOST_START: u32 = 2_147_483_647;
 
@@ -109,7 +106,8 @@ fn number_option(
     most: u32,
     otherwise: u32,
 ) -> Option<u32>
-    ensures { result ≡ number_or least most otherwise (first_value (found_of matches.now) name.now) }
+    ensures { result ≡ number_or least most otherwise
+        (first_value (found_of matches.now) name.now) }
 {
     match matches.get_str(name) {
         None => Some(otherwise),
@@ -195,10 +193,13 @@ fn generate_option(matches: &ArgMatches) -> Option<Option<GenWish>>
     }
 }
 
-/// What the values of the options ask for, with or without the flags `--write` and `--log`. None exactly where they ask for nothing.
+/// What the values of the options ask for, with or without the flags `--write` and `--log`. None
+/// exactly where they ask for nothing.
 pub fn asked(matches: &ArgMatches, write: bool, log: bool) -> Option<Wish>
-    ensures some { IfSome result (λ wish. Asks (first_value (found_of matches.now)) write log wish) }
-    ensures none { result ≡ None → (wish : Wish) → Asks (first_value (found_of matches.now)) write log wish → ⊥ }
+    ensures some { IfSome result
+        (λ wish. Asks (first_value (found_of matches.now)) write log wish) }
+    ensures none { result ≡ None → (wish : Wish) → Asks (first_value (found_of matches.now)) write
+        log wish → ⊥ }
 {
     if write && log {
         return None;

@@ -1,18 +1,18 @@
-pub mod Lines
-pub mod Numbers
-pub mod Steps
-pub mod States
-pub mod Names
-pub mod RowLines
-pub mod ColumnLines
-pub mod SetLines
-pub mod Facts
-pub mod Frame
-pub mod Plain
-pub mod Found
-pub mod Terms
-pub mod Ends
-pub mod Objective
-pub mod Meaning
-pub mod Texts
-pub mod Cursor
+mod Lines
+mod Numbers
+mod Steps
+mod States
+mod Names
+mod RowLines
+mod ColumnLines
+mod SetLines
+mod Facts
+mod Frame
+mod Plain
+mod Found
+mod Terms
+mod Ends
+mod Objective
+mod Meaning
+mod Texts
+mod Cursor

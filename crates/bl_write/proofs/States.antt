@@ -1,5 +1,6 @@
 -- What the written lines say, section by section.
-use Rattle.std.proofs.Common.{ℕ, suc, Bool, true, false, List, [], ◌∷◌, ◌++◌, map, codes, Option, Some, None, ℤ, cond}
+use Rattle.std.proofs.Common.{ℕ, suc, Bool, true, false, List, [], ◌∷◌, ◌++◌, map, codes, Option}
+use Rattle.std.proofs.Common.{Some, None, ℤ, cond}
 use Rattle.std.specs.Ordering.{int_eq}
 use Rattle.bl_problem.specs.declared.problem.Column.{Column}
 use Rattle.bl_problem.specs.declared.problem.Row.{Row}
@@ -45,10 +46,18 @@ abbrev pub all_whole : List Column → List Bool
 all_whole columns = map (λ c. true) columns
 
 abbrev pub open_grid : List Text → List Bool → List Cell → Bool → Grid
-open_grid names whole cells is_open = record { names = names; whole = whole; cells = cells; is_open = is_open; in_stretch = true }
+open_grid names whole cells is_open =
+    record { names = names; whole = whole; cells = cells; is_open = is_open; in_stretch = true }
 
 abbrev pub grid_said : Program → Grid
-grid_said p = record { names = names_of p.columns; whole = all_whole p.columns; cells = cells_said p 0 p.columns; is_open = false; in_stretch = false }
+grid_said p = record {
+  names = names_of p.columns;
+  whole = all_whole p.columns;
+  cells =
+      cells_said p 0 p.columns;
+  is_open = false;
+  in_stretch = false;
+}
 
 abbrev pub given_said : Amount → Given
 given_said a = record { row = a.name; number = decimal_in a.value a.places }
@@ -74,7 +83,16 @@ bounds_said (c ∷ columns) = record { set = Some (codes "BND"); given = cards_s
 -- after ROWS
 abbrev pub state : Program → Section → Grid → SetOf Given → SetOf Given → SetOf Card → Said
 state p section grid rhs ranges bounds =
-    record { section = section; sense = sense_said p.sense; rows = rows_said p; columns = grid; rhs = rhs; ranges = ranges; bounds = bounds }
+    record {
+      section = section;
+      sense = sense_said p.sense;
+      rows = rows_said p;
+      columns =
+          grid;
+      rhs = rhs;
+      ranges = ranges;
+      bounds = bounds;
+    }
 
 -- RHS, RANGES and BOUNDS stand where they have a line
 abbrev pub after_rhs : List Amount → Section

@@ -5,7 +5,8 @@ use Rattle.bl_problem.specs.declared.problem.Row.{Row}
 use Rattle.bl_problem.specs.Program.{Program}
 use Rattle.bl_problem.specs.Rows.{coefficient_of}
 
--- from the cursor on stand the terms of column j and of those behind it, in order; no column before has more than one
+-- from the cursor on stand the terms of column j and of those behind it, in order; no column
+-- before has more than one
 pub record IsAt (terms : List Term) (cursor j : ℕ) : Type 0 where
   pub few : cursor ≤ j
   pub left : (i : ℕ) → j ≤ i → coefficient_of terms i ≡ coefficient_of (drop cursor terms) i
@@ -15,4 +16,5 @@ pub record IsAt (terms : List Term) (cursor j : ℕ) : Type 0 where
 -- there is a cursor for each row
 pub record AreAt (p : Program) (cursors : List ℕ) (j : ℕ) : Type 0 where
   pub as_many : length cursors ≡ length p.rows
-  pub each : (k : ℕ) (r : Row) → k < length p.rows → IsAt (get_or p.rows k r).terms (get_or cursors k 0) j
+  pub each : (k : ℕ) (r : Row) → k < length p.rows
+      → IsAt (get_or p.rows k r).terms (get_or cursors k 0) j

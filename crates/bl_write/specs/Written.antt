@@ -1,5 +1,6 @@
 -- The lines of the MPS file that is written for a problem.
-use Rattle.std.specs.Prelude.{ℕ, suc, not, List, [], ◌∷◌, ◌++◌, map, filter, codes, Option, Some, None, ℤ, pos, ◌-ℤ◌, neg_ℤ, if◌then◌else◌}
+use Rattle.std.specs.Prelude.{ℕ, suc, not, List, [], ◌∷◌, ◌++◌, map, filter, codes, Option, Some}
+use Rattle.std.specs.Prelude.{None, ℤ, pos, ◌-ℤ◌, neg_ℤ, if◌then◌else◌}
 use Rattle.std.specs.Ordering.{int_eq}
 use Rattle.bl_num.specs.Texts.{text_of}
 use Rattle.bl_problem.specs.declared.problem.Column.{Column}
@@ -38,7 +39,8 @@ sense_lines Max = heading (codes "OBJSENSE") ∷ laid (5, codes "MAX") [] ∷ []
 
 -- ---- ROWS
 
--- E where both ends are equal, L where both stand and differ or the high one stands alone, G where the low one does
+-- E where both ends are equal, L where both stand and differ or the high one stands alone, G
+-- where the low one does
 abbrev pub kind_of : Option ℤ → Option ℤ → Text
 kind_of None high = codes "L"
 kind_of (Some low) None = codes "G"
@@ -70,7 +72,8 @@ amounts_of p j c = cost_of p c ∷ nonzero (map (coefficient_in j) p.rows)
 -- the lines of the columns from place j on
 abbrev pub cells_lines : Program → ℕ → List Column → List Text
 cells_lines p j [] = []
-cells_lines p j (c ∷ columns) = map (number_line c.name) (amounts_of p j c) ++ cells_lines p (suc j) columns
+cells_lines p j (c ∷ columns) = map (number_line c.name) (amounts_of p j c)
+    ++ cells_lines p (suc j) columns
 
 abbrev pub columns_lines : Program → List Text
 columns_lines p = marker_line (codes "'INTORG'") ∷ (cells_lines p 0 p.columns ++ marker_line (codes "'INTEND'") ∷ [])

@@ -1,11 +1,13 @@
 //! COLUMNS: each column's cost and coefficients, in order of rows.
-ghost use Rattle.std.specs.Prelude.{◌≡◌, ◌≢◌, ◌++◌, ◌∷◌, [], ◌≤◌, ◌<◌, ◌+◌, ◌^◌, map, codes, OnOk, IfOk, length, get_or, pos};
+ghost use Rattle.std.specs.Prelude.{◌≡◌, ◌≢◌, ◌++◌, ◌∷◌, [], ◌≤◌, ◌<◌, ◌+◌, ◌^◌, map, codes};
+ghost use Rattle.std.specs.Prelude.{OnOk, IfOk, length, get_or, pos};
 ghost use Rattle.bl_problem.specs.declared.problem.Column.{Column};
 ghost use Rattle.bl_problem.specs.declared.problem.Row.{Row};
 ghost use Rattle.bl_problem.specs.Rows.{coefficient_of};
 ghost use Rattle.bl_write.specs.Cursors.{AreAt, IsAt};
 ghost use Rattle.bl_write.specs.Layout.{ended};
-ghost use Rattle.bl_write.specs.Written.{cells_lines, coefficient_in, columns_lines, cost_of, heading, marker_line, nonzero, number_line};
+ghost use Rattle.bl_write.specs.Written.{cells_lines, coefficient_in, columns_lines, cost_of};
+ghost use Rattle.bl_write.specs.Written.{heading, marker_line, nonzero, number_line};
 
 use crate::line::{Field, push_heading, push_line, push_number};
 use bl_problem::{Problem, Term};
@@ -35,9 +37,11 @@ fn push_marker(text: &mut Vec<u8>, word: &[u8]) -> Result<(), AllocError>
     push_line(text, first, &[second, Field { column: 40, word }])
 }
 
-// The columns, one after another. The terms of each row stand in order of columns, so a cursor in each row is enough.
+// The columns, one after another. The terms of each row stand in order of columns, so a cursor
+// in each row is enough.
 fn push_cells(alloc: Global, text: &mut Vec<u8>, problem: &Problem) -> Result<(), AllocError>
-    ensures { OnOk result (text.new.items ≡ text.old.items ++ ended (cells_lines problem.now 0 problem.now.columns)) }
+    ensures { OnOk result (text.new.items ≡ text.old.items
+        ++ ended (cells_lines problem.now 0 problem.now.columns)) }
 {
     let mut cursors = vec![in alloc; 0_usize; problem.rows().len()]?;
     for j in 0..problem.columns().len() {
@@ -55,7 +59,9 @@ fn push_cost(
     j: usize,
 ) -> Result<(), AllocError>
     requires { j < length problem.now.columns }
-    ensures { OnOk result ((c : Column) → text.new.items ≡ text.old.items ++ ended (number_line (get_or problem.now.columns j c).name (cost_of problem.now (get_or problem.now.columns j c)) ∷ [])) }
+    ensures { OnOk result ((c : Column) → text.new.items ≡ text.old.items
+        ++ ended (number_line (get_or problem.now.columns j c).name
+        (cost_of problem.now (get_or problem.now.columns j c)) ∷ [])) }
 {
     let column = &problem.columns()[j];
     let cost = problem.shown(i128::from(column.cost));
@@ -80,7 +86,9 @@ fn push_coefficients(
 ) -> Result<(), AllocError>
     requires column { j < length problem.now.columns }
     requires at { AreAt problem.now cursors.old.items j }
-    ensures lines { OnOk result ((c : Column) → text.new.items ≡ text.old.items ++ ended (map (number_line (get_or problem.now.columns j c).name) (nonzero (map (coefficient_in j) problem.now.rows)))) }
+    ensures lines { OnOk result ((c : Column) → text.new.items ≡ text.old.items
+        ++ ended (map (number_line (get_or problem.now.columns j c).name)
+        (nonzero (map (coefficient_in j) problem.now.rows)))) }
     ensures at { OnOk result (AreAt problem.now cursors.new.items (j + 1)) }
 {
     for i in 0..problem.rows().len() {
@@ -101,8 +109,11 @@ fn push_coefficient(
     requires column { j < length problem.now.columns }
     requires row { i < length problem.now.rows }
     requires at { (r : Row) → IsAt (get_or problem.now.rows i r).terms cursor j }
-    ensures lines { OnOk result ((c : Column) (r : Row) → text.new.items ≡ text.old.items ++ ended (map (number_line (get_or problem.now.columns j c).name) (nonzero (coefficient_in j (get_or problem.now.rows i r) ∷ [])))) }
-    ensures at { IfOk result (λ next. (r : Row) → IsAt (get_or problem.now.rows i r).terms next (j + 1)) }
+    ensures lines { OnOk result ((c : Column) (r : Row) → text.new.items ≡ text.old.items
+        ++ ended (map (number_line (get_or problem.now.columns j c).name)
+        (nonzero (coefficient_in j (get_or problem.now.rows i r) ∷ [])))) }
+    ensures at { IfOk result (λ next. (r : Row) → IsAt (get_or problem.now.rows i r).terms next
+        (j + 1)) }
 {
     let row = &problem.rows()[i];
     let column = &problem.columns()[j];

@@ -1,7 +1,7 @@
 //! Formats: the MPS text of a problem.
 //!
-//! `specs/Written.antt` says which lines the text has, `specs/Layout.antt` how their fields are laid out, and
-//! `specs/Laws.antt` that the text, read again, is the problem.
+//! `specs/Written.antt` says which lines the text has, `specs/Layout.antt` how their fields are
+//! laid out, and `specs/Laws.antt` that the text, read again, is the problem.
 #![tactic(auto)]
 
 ghost use Rattle.std.specs.Prelude.{◌≡◌, IfOk};
@@ -18,9 +18,9 @@ use cells::push_columns;
 use sections::{push_back, push_front};
 use std::alloc::{AllocError, Global};
 
-/// The text of a problem: an MPS file whose fields stand at the standard columns, or one blank behind the
-/// field before where that ends later. Read again, it is the problem.
-/// `AllocError` only where there is no memory.
+/// The text of a problem: an MPS file whose fields stand at the standard columns, or one blank
+/// behind the field before where that ends later. Read again, it is the problem. `AllocError`
+/// only where there is no memory.
 pub fn write(alloc: Global, problem: &Problem) -> Result<Vec<u8>, AllocError>
     ensures { IfOk result (λ text. text.items ≡ written problem.now) }
 {

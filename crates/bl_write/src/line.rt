@@ -27,7 +27,9 @@ fn push_blanks(text: &mut Vec<u8>, count: usize) -> Result<(), AllocError>
 // A field of the line that begins at `start`, behind others.
 fn push_field(text: &mut Vec<u8>, start: usize, field: Field<'_>) -> Result<(), AllocError>
     requires { start ≤ length text.old.items }
-    ensures { OnOk result (text.new.items ≡ text.old.items ++ (replicate (gap (length text.old.items - start) field.entry.column) 32 ++ field.entry.word.now)) }
+    ensures { OnOk result (text.new.items ≡ text.old.items
+        ++ (replicate (gap (length text.old.items - start) field.entry.column) 32
+        ++ field.entry.word.now)) }
 {
     let place = text.len() - start;
     let blanks = field.column.saturating_sub(1).saturating_sub(place).max(1);
@@ -38,7 +40,8 @@ fn push_field(text: &mut Vec<u8>, start: usize, field: Field<'_>) -> Result<(), 
 // Further fields of the line that begins at `start`.
 fn push_fields(text: &mut Vec<u8>, start: usize, fields: &[Field<'_>]) -> Result<(), AllocError>
     requires { start ≤ length text.old.items }
-    ensures { OnOk result (text.new.items ≡ text.old.items ++ spaced (fields_from (length text.old.items - start) (map field_of fields.now))) }
+    ensures { OnOk result (text.new.items ≡ text.old.items
+        ++ spaced (fields_from (length text.old.items - start) (map field_of fields.now))) }
 {
     for field in fields {
         push_field(text, start, *field)?;
@@ -52,7 +55,8 @@ pub fn push_line(
     first: Field<'_>,
     others: &[Field<'_>],
 ) -> Result<(), AllocError>
-    ensures { OnOk result (text.new.items ≡ text.old.items ++ ended (laid (field_of first.entry) (map field_of others.now) ∷ [])) }
+    ensures { OnOk result (text.new.items ≡ text.old.items
+        ++ ended (laid (field_of first.entry) (map field_of others.now) ∷ [])) }
 {
     let start = text.len();
     push_blanks(text, first.column.saturating_sub(1))?;
@@ -86,7 +90,9 @@ pub fn push_number(
     places: u32,
 ) -> Result<(), AllocError>
     requires { places ≤ 27 }
-    ensures { OnOk result (text.new.items ≡ text.old.items ++ ended (number_line first.now (record { name = row.now; value = value; places = places }) ∷ [])) }
+    ensures { OnOk result (text.new.items ≡ text.old.items
+        ++ ended (number_line first.now
+        (record { name = row.now; value = value; places = places }) ∷ [])) }
 {
     let number = decimal_text(alloc, value, places)?;
     let row = Field {
@@ -117,7 +123,9 @@ pub fn push_nonzero(
     places: u32,
 ) -> Result<(), AllocError>
     requires { places ≤ 27 }
-    ensures { OnOk result (text.new.items ≡ text.old.items ++ ended (map (number_line first.now) (nonzero (record { name = row.now; value = value; places = places } ∷ [])))) }
+    ensures { OnOk result (text.new.items ≡ text.old.items
+        ++ ended (map (number_line first.now)
+        (nonzero (record { name = row.now; value = value; places = places } ∷ [])))) }
 {
     if value == 0 {
         return Ok(());

@@ -3,7 +3,8 @@ ghost use Rattle.std.specs.Prelude.{◌≡◌, ◌++◌, ◌∷◌, [], ◌≤�
 ghost use Rattle.bl_problem.specs.declared.problem.Row.{Row};
 ghost use Rattle.bl_problem.specs.Sums.{IsWithin};
 ghost use Rattle.bl_write.specs.Layout.{ended};
-ghost use Rattle.bl_write.specs.Written.{back_lines, bound_line, bounds_lines, ends_lines, front_lines, kind_of, row_line, rows_lines, sense_lines};
+ghost use Rattle.bl_write.specs.Written.{back_lines, bound_line, bounds_lines, ends_lines};
+ghost use Rattle.bl_write.specs.Written.{front_lines, kind_of, row_line, rows_lines, sense_lines};
 
 use crate::line::{Field, push_heading, push_line};
 use crate::sets::{push_ranges, push_rights};
@@ -54,7 +55,8 @@ fn push_sense(text: &mut Vec<u8>, sense: Sense) -> Result<(), AllocError>
 
 // A row's kind and name.
 fn push_row(text: &mut Vec<u8>, kind: &[u8], name: &[u8]) -> Result<(), AllocError>
-    ensures { OnOk result (text.new.items ≡ text.old.items ++ ended (row_line kind.now name.now ∷ [])) }
+    ensures { OnOk result (text.new.items ≡ text.old.items
+        ++ ended (row_line kind.now name.now ∷ [])) }
 {
     push_line(
         text,
@@ -69,10 +71,11 @@ fn push_row(text: &mut Vec<u8>, kind: &[u8], name: &[u8]) -> Result<(), AllocErr
     )
 }
 
-// `E` where both ends are equal, `L` where both stand and differ or the high one stands alone, `G` where the low one
-// does.
+// `E` where both ends are equal, `L` where both stand and differ or the high one stands alone,
+// `G` where the low one does.
 fn push_kind(text: &mut Vec<u8>, row: &Row) -> Result<(), AllocError>
-    ensures { OnOk result (text.new.items ≡ text.old.items ++ ended (row_line (kind_of row.now.low row.now.high) row.now.name ∷ [])) }
+    ensures { OnOk result (text.new.items ≡ text.old.items
+        ++ ended (row_line (kind_of row.now.low row.now.high) row.now.name ∷ [])) }
 {
     let name = row.name.bytes();
     match (row.low, row.high) {
@@ -83,7 +86,8 @@ fn push_kind(text: &mut Vec<u8>, row: &Row) -> Result<(), AllocError>
 }
 
 fn push_rows(text: &mut Vec<u8>, rows: &[Row]) -> Result<(), AllocError>
-    ensures { OnOk result (text.new.items ≡ text.old.items ++ ended (map (λ (r : Row). row_line (kind_of r.low r.high) r.name) rows.now)) }
+    ensures { OnOk result (text.new.items ≡ text.old.items
+        ++ ended (map (λ (r : Row). row_line (kind_of r.low r.high) r.name) rows.now)) }
 {
     for row in rows {
         push_kind(text, row)?;
@@ -130,7 +134,8 @@ fn push_bound(
     name: &[u8],
     end: i64,
 ) -> Result<(), AllocError>
-    ensures { OnOk result (text.new.items ≡ text.old.items ++ ended (bound_line kind.now name.now end ∷ [])) }
+    ensures { OnOk result (text.new.items ≡ text.old.items
+        ++ ended (bound_line kind.now name.now end ∷ [])) }
 {
     let number = decimal_text(alloc, i128::from(end), 0)?;
     let set = Field {

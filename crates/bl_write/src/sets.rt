@@ -2,7 +2,9 @@
 ghost use Rattle.std.specs.Prelude.{◌≡◌, ◌++◌, ◌∷◌, [], ◌≤◌, ◌^◌, map, codes, OnOk, length};
 ghost use Rattle.bl_problem.specs.Rows.{AreEnds};
 ghost use Rattle.bl_write.specs.Layout.{ended};
-ghost use Rattle.bl_write.specs.Written.{constant_of, heading, nonzero, number_line, range_of, ranges_of, right_of, right_side, rights_of, set_lines, width_of};
+ghost use Rattle.bl_write.specs.Written.{constant_of, heading, nonzero, number_line, range_of};
+ghost use Rattle.bl_write.specs.Written.{ranges_of, right_of, right_side, rights_of, set_lines};
+ghost use Rattle.bl_write.specs.Written.{width_of};
 
 use crate::line::{push_heading, push_nonzero};
 use bl_problem::{Problem, Row};

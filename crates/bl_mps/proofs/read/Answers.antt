@@ -12,4 +12,6 @@ finish-requires c = c.in-Ok.ensures.coherent c.new.ensures.coherent
 
 pub returns : goal.returns
 returns c =
-    line_fault c.in-Err.fault c.args.bytes.now (subst (λ (s : Said). Reads {A = Whole} (Err c.in-Err.fault) (said_from 0 s (lines_of c.args.bytes.now))) c.new.ensures.nothing c.in-Err.ensures.said)
+    line_fault c.in-Err.fault c.args.bytes.now
+    (subst (λ (s : Said). Reads {A = Whole} (Err c.in-Err.fault)
+    (said_from 0 s (lines_of c.args.bytes.now))) c.new.ensures.nothing c.in-Err.ensures.said)

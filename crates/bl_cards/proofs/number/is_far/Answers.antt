@@ -6,4 +6,5 @@ pub pow-requires : goal.pow-requires
 pow-requires c = let p = ten_pow-le c.args.number.places 27 c.requires in omega (arith, p)
 
 pub overflow_mul-result : goal.overflow_mul-result
-overflow_mul-result c = let p = ten_pow-le c.args.number.places 27 c.requires in omega (arith, p, c.pow.ensures)
+overflow_mul-result c = let p =
+    ten_pow-le c.args.number.places 27 c.requires in omega (arith, p, c.pow.ensures)

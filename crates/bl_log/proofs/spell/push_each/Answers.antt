@@ -14,9 +14,12 @@ loop-x-preserved g c =
     let x = c.x-item.result in
     let old : Text = string_bytes c.args.text.now in
     let words = g.T.Spell.spelled in
-    let more = take_more xs i x c.loop-x-test.true ∙ ap (λ y. take i xs ++ y ∷ []) (sym c.x-item.is) in (
+    let more = take_more xs i x c.loop-x-test.true
+    ∙ ap (λ y. take i xs ++ y ∷ []) (sym c.x-item.is) in (
       c.in_ok-push.ensures.laid ∙ ap (λ (t : Text). t ++ spaced (words x)) c.loop-x.invariant.0
           ∙ append_assoc old (spaced (each words (take i xs))) (spaced (words x))
-          ∙ ap (λ (t : Text). old ++ t) (sym (ap (λ ys. spaced (each words ys)) more ∙ each_laid words (take i xs) x)),
-      subst (λ ys. All g.T.Spell.fits ys) (sym more) (All-push g.T.Spell.fits (take i xs) x c.loop-x.invariant.1 c.in_ok-push.ensures.fits),
+          ∙ ap (λ (t : Text). old ++ t)
+          (sym (ap (λ ys. spaced (each words ys)) more ∙ each_laid words (take i xs) x)),
+      subst (λ ys. All g.T.Spell.fits ys) (sym more)
+          (All-push g.T.Spell.fits (take i xs) x c.loop-x.invariant.1 c.in_ok-push.ensures.fits),
     )

@@ -8,5 +8,6 @@ abbrev pub invariant-loop : goal.invariant-loop
 invariant-loop g l =
     (length l.list ≡ l.counter)
     × All g.T.Spell.fits l.list
-    × ((xs : List g.row.T.Denot) (rest : List Text) → length xs ≡ l.count → All g.T.Spell.fits xs → l.initial.words ≡ each g.T.Spell.spelled xs ++ rest
+    × ((xs : List g.row.T.Denot) (rest : List Text) → length xs ≡ l.count → All g.T.Spell.fits xs
+    → l.initial.words ≡ each g.T.Spell.spelled xs ++ rest
     → IsLeft g.T.Spell.spelled g.T.Spell.fits xs l.list l.words rest)

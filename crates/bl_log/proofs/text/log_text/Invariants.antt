@@ -6,4 +6,5 @@ use Rattle.bl_log.specs.Log.{text_of}
 use Rattle.bl_log.proofs.text.log_text.Given as goal
 
 abbrev pub invariant-loop-entry : goal.invariant-loop-entry
-invariant-loop-entry l = (string_bytes l.text ≡ text_of (take l.entry-index l.entry-items)) × All Fits (take l.entry-index l.entry-items)
+invariant-loop-entry l = (string_bytes l.text ≡ text_of (take l.entry-index l.entry-items))
+    × All Fits (take l.entry-index l.entry-items)

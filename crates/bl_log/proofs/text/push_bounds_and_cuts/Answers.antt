@@ -11,4 +11,6 @@ returns-clause-laid c =
     let dropped : List Text = codes "drop" ∷ listed natural c.args.change.now.cuts.dropped in
     let added : List Text = codes "add" ∷ listed cut c.args.change.now.cuts.added in
     laid_then _ _ _ lows (highs ++ (dropped ++ added)) c.in_ok-push_mods.ensures.laid
-    (laid_then _ _ _ highs (dropped ++ added) c.in_ok-push_mods-2.ensures.laid (laid_then _ _ _ dropped added c.in_ok-push_dropped.ensures.laid c.in_ok-push_added.ensures.laid))
+    (laid_then _ _ _ highs (dropped ++ added) c.in_ok-push_mods-2.ensures.laid
+    (laid_then _ _ _ dropped added c.in_ok-push_dropped.ensures.laid
+    c.in_ok-push_added.ensures.laid))

@@ -13,5 +13,6 @@ returns-in_ok-push_next-in-Put-clause-laid c =
     let found : List Text = found_point c.in-Put.found in
     let next : List Text = codes "next" ∷ next_step c.in-Put.next in
     line_then old _ _ (codes "put") head (found ++ next) c.in_ok-push_head-in-Put.ensures.laid
-    (laid_then _ _ _ found next c.in_ok-push_found-in-Put.ensures.laid c.in_ok-push_next-in-Put.ensures.laid)
+    (laid_then _ _ _ found next c.in_ok-push_found-in-Put.ensures.laid
+    c.in_ok-push_next-in-Put.ensures.laid)
     ∙ ap (λ e. old ++ line_of e) (sym c.in-Put.is)

@@ -2,4 +2,5 @@ use Rattle.std.proofs.lemmas.Str.{IsUtf8-from_ascii}
 use Rattle.bl_log.proofs.tokens.as_text.Goals as goal
 
 pub returns-in-Err : goal.returns-in-Err
-returns-in-Err c = λ ascii. absurd (c.in-Err.ensures.cases.0 (IsUtf8-from_ascii c.args.word.now ascii))
+returns-in-Err c =
+    λ ascii. absurd (c.in-Err.ensures.cases.0 (IsUtf8-from_ascii c.args.word.now ascii))

@@ -9,17 +9,20 @@ use Rattle.bl_log.proofs.Numerals.{mag64, not_both, ok_same, signed_ascii}
 use Rattle.bl_log.proofs.tokens.i64_in.Goals as goal
 
 pub returns-in_default-clause-reads : goal.returns-in_default-clause-reads
-returns-in_default-clause-reads c = λ z f is. absurd (c.in_default.ensures (subst IsAscii (sym is) (signed_ascii z (wide64 z f))))
+returns-in_default-clause-reads c =
+    λ z f is. absurd (c.in_default.ensures (subst IsAscii (sym is) (signed_ascii z (wide64 z f))))
 
 pub returns-in-Ok-clause-reads : goal.returns-in-Ok-clause-reads
 returns-in-Ok-clause-reads c = λ z f is.
     let ascii : IsAscii c.args.word.now = subst IsAscii (sym is) (signed_ascii z (wide64 z f)) in
-    let parsed : c.parse.result ≡ Ok z = parse-signed_decimal w64 z _ c.parse.result f (mag64 z f) (c.in-Some.ensures ascii ∙ is) c.parse.ensures.value.0 in
+    let parsed : c.parse.result ≡ Ok z = parse-signed_decimal w64 z _ c.parse.result f (mag64 z f)
+    (c.in-Some.ensures ascii ∙ is) c.parse.ensures.value.0 in
     let same = ok_same c.parse.result c.in-Ok.number z c.in-Ok.is parsed in
     to_z-of_z w64 c.in-Ok.number (subst (λ y. FitsSigned w64 y) (sym same) f) ∙ same
 
 pub returns-in-Err-clause-reads : goal.returns-in-Err-clause-reads
 returns-in-Err-clause-reads c = λ z f is.
     let ascii : IsAscii c.args.word.now = subst IsAscii (sym is) (signed_ascii z (wide64 z f)) in
-    let parsed : c.parse.result ≡ Ok z = parse-signed_decimal w64 z _ c.parse.result f (mag64 z f) (c.in-Some.ensures ascii ∙ is) c.parse.ensures.value.0 in
+    let parsed : c.parse.result ≡ Ok z = parse-signed_decimal w64 z _ c.parse.result f (mag64 z f)
+    (c.in-Some.ensures ascii ∙ is) c.parse.ensures.value.0 in
     absurd (not_both c.parse.result z c.in-Err.field-0 parsed c.in-Err.is)

@@ -15,7 +15,8 @@ returns-in_err-pass_word-2-clause-reads c = λ seat id found low next f is.
     let two = c.in_ok-id.ensures.reads id (codes "low" ∷ signed_decimal low ∷ codes "found" ∷ tail) f.1 one.1 in
     let three = c.in_ok-pass_word.ensures (signed_decimal low ∷ codes "found" ∷ tail) two.1 in
     let four = c.in_ok-low.ensures.reads low (codes "found" ∷ tail) f.2 three in
-    err_stays c.from_residual-in_err-pass_word-2.result _ _ c.from_residual-in_err-pass_word-2.ensures (c.in_err-pass_word-2.ensures tail four.1)
+    err_stays c.from_residual-in_err-pass_word-2.result _ _
+    c.from_residual-in_err-pass_word-2.ensures (c.in_err-pass_word-2.ensures tail four.1)
 
 pub returns-in_err-found-clause-reads : goal.returns-in_err-found-clause-reads
 returns-in_err-found-clause-reads c = λ seat id found low next f is.
@@ -25,7 +26,8 @@ returns-in_err-found-clause-reads c = λ seat id found low next f is.
     let three = c.in_ok-pass_word.ensures (signed_decimal low ∷ codes "found" ∷ tail) two.1 in
     let four = c.in_ok-low.ensures.reads low (codes "found" ∷ tail) f.2 three in
     let five = c.in_ok-pass_word-2.ensures tail four.1 in
-    err_stays c.from_residual-in_err-found.result _ _ c.from_residual-in_err-found.ensures (c.in_err-found.ensures.reads found next f.3 f.4 five)
+    err_stays c.from_residual-in_err-found.result _ _ c.from_residual-in_err-found.ensures
+    (c.in_err-found.ensures.reads found next f.3 f.4 five)
 
 pub returns-clause-reads : goal.returns-clause-reads
 returns-clause-reads c = λ seat id found low next f is.

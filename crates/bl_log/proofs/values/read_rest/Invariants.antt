@@ -8,5 +8,7 @@ use Rattle.bl_log.proofs.values.read_rest.Given as goal
 
 abbrev pub invariant-loop-word : goal.invariant-loop-word
 invariant-loop-word l =
-    (goal.iterator-loop-word).can_next l.words × (goal.iterator-loop-word).is_finite l.words × All IsU32 l.ids
-    × ((ids : List ℕ) → All IsU32 ids → l.initial.words ≡ each natural ids → IsLeft natural IsU32 ids l.ids l.words [])
+    (goal.iterator-loop-word).can_next l.words × (goal.iterator-loop-word).is_finite l.words
+    × All IsU32 l.ids
+    × ((ids : List ℕ) → All IsU32 ids → l.initial.words ≡ each natural ids
+    → IsLeft natural IsU32 ids l.ids l.words [])

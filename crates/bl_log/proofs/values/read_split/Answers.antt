@@ -8,7 +8,8 @@ use Rattle.bl_log.proofs.values.read_split.Goals as goal
 
 pub returns-clause-reads : goal.returns-clause-reads
 returns-clause-reads c = λ common column at rest column_fits at_fits fits is.
-    let one = c.in_ok-column.ensures.reads column (signed_decimal at ∷ (lists_of common ++ rest)) column_fits is in
+    let one = c.in_ok-column.ensures.reads column (signed_decimal at ∷ (lists_of common ++ rest))
+    column_fits is in
     let two = c.in_ok-at.ensures.reads at (lists_of common ++ rest) at_fits one.1 in
     let three = c.in_ok-change.ensures.reads common rest fits two.1 in
     let place = to_z-of_z w64 c.in_ok-at.at c.in_ok-at.ensures.fits ∙ two.0 in

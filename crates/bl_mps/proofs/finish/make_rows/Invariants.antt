@@ -7,6 +7,7 @@ use Rattle.bl_mps.proofs.finish.make_rows.Given as goal
 
 abbrev pub invariant-loop-i : goal.invariant-loop-i
 invariant-loop-i l = record {
-  made : l.rows ≡ map (row_of l.reader) (filter (λ line. is_limited line.role) (take l.i l.reader.rows));
+  made : l.rows ≡ map (row_of l.reader)
+      (filter (λ line. is_limited line.role) (take l.i l.reader.rows));
   keep : list_all row_within l.rows ≡ true;
 }

@@ -10,8 +10,10 @@ pub returns-in_ok-range-in-Some : goal.returns-in_ok-range-in-Some
 returns-in_ok-range-in-Some c =
     let b = in_units c.args.right c.args.places in
     let r = in_units c.in-Some.range c.args.places in
-    let p = some_number (is_within (10 ^ 24) b) b c.in_ok-right.right (sym c.units.ensures ∙ c.in_ok-right.was) in
-    let q = some_number (is_within (2 * 10 ^ 24) r) r c.in_ok-range-in-Some.range (sym c.units-in-Some.ensures ∙ c.in_ok-range-in-Some.was) in
+    let p = some_number (is_within (10 ^ 24) b) b c.in_ok-right.right
+    (sym c.units.ensures ∙ c.in_ok-right.was) in
+    let q = some_number (is_within (2 * 10 ^ 24) r) r c.in_ok-range-in-Some.range
+    (sym c.units-in-Some.ensures ∙ c.in_ok-range-in-Some.was) in
     let m : FitsSigned w128 c.in_ok-right.right = search rules in
     let n : FitsSigned w128 c.in_ok-range-in-Some.range = search rules in
     let e = to_z-of_z w128 c.in_ok-right.right m in

@@ -1,4 +1,5 @@
-use Rattle.std.proofs.Common.{◌≡◌, ◌<◌, ◌+◌, ◌++◌, ◌∷◌, ◌∙◌, [], ℕ, ap, arith, drop, get_or, length, map, pos, refl, replicate, subst, suc, sym}
+use Rattle.std.proofs.Common.{◌≡◌, ◌<◌, ◌+◌, ◌++◌, ◌∷◌, ◌∙◌, [], ℕ, ap, arith, drop, get_or}
+use Rattle.std.proofs.Common.{length, map, pos, refl, replicate, subst, suc, sym}
 use Rattle.std.proofs.lemmas.List.{drop_more, get_or-replicate, length-replicate}
 use Rattle.bl_problem.specs.declared.problem.Column.{Column}
 use Rattle.bl_write.specs.Cursors.{IsAt}
@@ -17,11 +18,17 @@ pub loop-j-init : goal.loop-j-init
 loop-j-init c =
     let p = c.args.problem.now in
     let cursors = c.in_ok-cursors.cursors.items in
-    let zeros : (k : ℕ) → k < length p.rows → get_or cursors k 0 ≡ 0 = λ k lt. ap (λ xs. get_or xs k 0) (c.in_ok-cursors.ensures.items_if_clones_equal (λ y e. e)) ∙ zero_at (length c.rows.result.now) k (omega (arith, lt, ap length c.rows.ensures.rows)) in (
+    let zeros : (k : ℕ) → k < length p.rows → get_or cursors k 0 ≡ 0 =
+    λ k lt. ap (λ xs. get_or xs k 0) (c.in_ok-cursors.ensures.items_if_clones_equal
+    (λ y e. e)) ∙ zero_at (length c.rows.result.now) k
+    (omega (arith, lt, ap length c.rows.ensures.rows)) in (
       refl,
       record {
-        as_many = ap length (c.in_ok-cursors.ensures.items_if_clones_equal (λ y e. e)) ∙ length-replicate (length c.rows.result.now) 0 ∙ ap length c.rows.ensures.rows;
-        each = λ k r lt. subst (λ n. IsAt (get_or p.rows k r).terms n 0) (sym (zeros k lt)) (at_start (length p.columns) (get_or p.rows k r).terms (c.rows.ensures.program.rows k r lt).terms);
+        as_many = ap length (c.in_ok-cursors.ensures.items_if_clones_equal (λ y e. e))
+            ∙ length-replicate (length c.rows.result.now) 0 ∙ ap length c.rows.ensures.rows;
+        each = λ k r lt. subst (λ n. IsAt (get_or p.rows k r).terms n 0) (sym (zeros k lt))
+            (at_start (length p.columns) (get_or p.rows k r).terms
+            (c.rows.ensures.program.rows k r lt).terms);
       },
     )
 
@@ -37,9 +44,15 @@ loop-j-preserved c =
     let items = c.loop-j.text.items in
     let mid = c.push_cost.new.text.items in
     let new = c.push_coefficients.new.text.items in (
-      pushed c.args.text.now.items items new (cells_lines p 0 p.columns) (cells_lines p j (drop j p.columns)) (map line (cost_of p column ∷ others)) (cells_lines p (j + 1) rest)
-          (ap (cells_lines p j) (drop_more p.columns j no_column within) ∙ ap (λ k. map line (cost_of p column ∷ others) ++ cells_lines p k rest) (let e : suc j ≡ j + 1 = omega arith in e))
-          (and_then items mid new (line (cost_of p column) ∷ []) (map line others) (c.in_ok-push_cost.ensures no_column) (c.in_ok-push_coefficients.ensures.lines no_column))
+      pushed c.args.text.now.items items new (cells_lines p 0 p.columns)
+          (cells_lines p j (drop j p.columns)) (map line (cost_of p column ∷ others))
+          (cells_lines p (j + 1) rest)
+          (ap (cells_lines p j) (drop_more p.columns j no_column within)
+          ∙ ap (λ k. map line (cost_of p column ∷ others) ++ cells_lines p k rest)
+          (let e : suc j ≡ j + 1 = omega arith in e))
+          (and_then items mid new (line (cost_of p column) ∷ []) (map line others)
+          (c.in_ok-push_cost.ensures no_column)
+          (c.in_ok-push_coefficients.ensures.lines no_column))
           c.loop-j.invariant.0,
       c.in_ok-push_coefficients.ensures.at,
     )

@@ -16,7 +16,8 @@ returns c =
     let first = marker_line (codes "'INTORG'") in
     let cells = cells_lines p 0 p.columns in
     let last = marker_line (codes "'INTEND'") ∷ [] in
-    on_ok c.push_marker-2.result (t4 ≡ t3 ++ ended last) (t4 ≡ t0 ++ ended (head ∷ columns_lines p)) (λ end.
+    on_ok c.push_marker-2.result (t4 ≡ t3 ++ ended last)
+    (t4 ≡ t0 ++ ended (head ∷ columns_lines p)) (λ end.
     and_then t0 t1 t4 (head ∷ []) (columns_lines p) c.in_ok-push_heading.ensures
     (and_then t1 t2 t4 (first ∷ []) (cells ++ last) c.in_ok-push_marker.ensures
     (and_then t2 t3 t4 cells last c.in_ok-push_cells.ensures end)))

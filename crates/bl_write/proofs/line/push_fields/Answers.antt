@@ -1,4 +1,5 @@
-use Rattle.std.proofs.Common.{◌-◌, ◌+◌, ◌++◌, ◌∙◌, [], ap, arith, drop, get_or, length, map, sym, append-nil}
+use Rattle.std.proofs.Common.{◌-◌, ◌+◌, ◌++◌, ◌∙◌, [], ap, arith, drop, get_or, length, map, sym}
+use Rattle.std.proofs.Common.{append-nil}
 use Rattle.std.proofs.lemmas.List.{drop_all, drop_more}
 use Rattle.bl_write.specs.Layout.{fields_from, gap, spaced}
 use Rattle.bl_write.specs.declared.line.Field.{Field}
@@ -19,13 +20,20 @@ loop-field-preserved c =
     let f = get_or fields i no_field in
     let rest = map field_of (drop (i + 1) fields) in
     let next = ap (map field_of) (drop_more fields i no_field (omega arith)) in (
-      field_room items new f.word.now start (gap (length items - start) f.column) c.loop-field.invariant.0 c.in_ok-push_field.ensures,
-      field_pushed start c.args.text.now.items items new (spaced (fields_from (length c.args.text.now.items - start) (map field_of fields))) f.word.now f.column rest c.loop-field.invariant.0 c.in_ok-push_field.ensures
-          (ap (λ fs. items ++ spaced (fields_from (length items - start) fs)) (sym next) ∙ c.loop-field.invariant.1),
+      field_room items new f.word.now start (gap (length items - start) f.column)
+          c.loop-field.invariant.0 c.in_ok-push_field.ensures,
+      field_pushed start c.args.text.now.items items new
+          (spaced (fields_from (length c.args.text.now.items - start) (map field_of fields)))
+          f.word.now f.column rest c.loop-field.invariant.0 c.in_ok-push_field.ensures
+          (ap (λ fs. items ++ spaced (fields_from (length items - start) fs)) (sym next)
+          ∙ c.loop-field.invariant.1),
     )
 
 pub returns : goal.returns
 returns c =
     let items = c.loop-field.text.items in
-    let none = ap (map field_of) (drop_all c.loop-field.field-index c.args.fields.now (omega arith)) in
-    sym (append-nil items) ∙ ap (λ fs. items ++ spaced (fields_from (length items - c.args.start) fs)) (sym none) ∙ c.loop-field.invariant.1
+    let none = ap (map field_of)
+    (drop_all c.loop-field.field-index c.args.fields.now (omega arith)) in
+    sym (append-nil items) ∙ ap (λ fs. items
+    ++ spaced (fields_from (length items - c.args.start) fs)) (sym none)
+    ∙ c.loop-field.invariant.1

@@ -1,4 +1,5 @@
-use Rattle.std.proofs.Common.{FitsSigned, rules, w64, ℤ, ◌≡◌, ◌∷◌, [], arith, codes, drop, ap, ap₂, sym, ◌∙◌, ◌+◌, ◌++◌}
+use Rattle.std.proofs.Common.{FitsSigned, rules, w64, ℤ, ◌≡◌, ◌∷◌, [], arith, codes, drop, ap}
+use Rattle.std.proofs.Common.{ap₂, sym, ◌∙◌, ◌+◌, ◌++◌}
 use Rattle.std.proofs.lemmas.Int.{to_z-of_z}
 use Rattle.std.proofs.lemmas.List.{drop_more}
 use Rattle.bl_problem.specs.declared.problem.Column.{Column}
@@ -20,8 +21,11 @@ loop-column-preserved c =
     let low = bound_line (codes "LO") column.name column.low in
     let high = bound_line (codes "UP") column.name column.high in
     let rest = ends_lines (drop (i + 1) columns) in
-    let next : drop i columns ≡ column ∷ drop (i + 1) columns = drop_more columns i column (omega arith) ∙ ap (λ (x : Column). x ∷ drop (i + 1) columns) (sym c.column-item.is) in
-    pushed c.args.text.now.items items new (ends_lines columns) (ends_lines (drop i columns)) (low ∷ high ∷ []) rest (ap ends_lines next)
+    let next : drop i columns ≡ column ∷ drop (i + 1) columns =
+    drop_more columns i column (omega arith) ∙ ap (λ (x : Column). x ∷ drop (i + 1) columns)
+    (sym c.column-item.is) in
+    pushed c.args.text.now.items items new (ends_lines columns) (ends_lines (drop i columns))
+    (low ∷ high ∷ []) rest (ap ends_lines next)
     (and_then items mid new (low ∷ []) (high ∷ [])
     (c.in_ok-push_bound.ensures ∙ ap₂ (λ n (z : ℤ). items ++ ended (bound_line (codes "LO") n z ∷ [])) c.bytes.ensures.bytes (to_z-of_z w64 column.low low_fits))
     (c.in_ok-push_bound-2.ensures ∙ ap₂ (λ n (z : ℤ). mid ++ ended (bound_line (codes "UP") n z ∷ [])) c.bytes-in-loop-column.ensures.bytes (to_z-of_z w64 column.high high_fits)))

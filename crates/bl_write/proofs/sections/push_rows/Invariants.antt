@@ -6,5 +6,7 @@ use Rattle.bl_write.proofs.sections.push_rows.Given as goal
 
 abbrev pub invariant-loop-row : goal.invariant-loop-row
 invariant-loop-row l =
-    l.text.items ++ ended (map (λ (r : Row). row_line (kind_of r.low r.high) r.name) (drop l.row-index l.rows))
-    ≡ l.initial.text.items ++ ended (map (λ (r : Row). row_line (kind_of r.low r.high) r.name) l.rows)
+    l.text.items ++ ended (map (λ (r : Row). row_line (kind_of r.low r.high) r.name)
+    (drop l.row-index l.rows))
+    ≡ l.initial.text.items ++ ended
+    (map (λ (r : Row). row_line (kind_of r.low r.high) r.name) l.rows)

@@ -6,5 +6,7 @@ use Rattle.bl_cards.proofs.given.Numbers.has.Goals as goal
 
 pub returns : goal.returns
 returns c =
-    c.is_some.ensures ∙ ap is_some c.find.ensures.place ∙ sym (given_is c.self.inside.rows c.self.inside.numbers.items c.args.row.now c.self.invariant)
+    c.is_some.ensures ∙ ap is_some c.find.ensures.place
+    ∙ sym (given_is c.self.inside.rows c.self.inside.numbers.items c.args.row.now
+    c.self.invariant)
     ∙ ap (λ gs. has_given gs c.args.row.now) c.self.view_is
