@@ -7,7 +7,8 @@ use Rattle.bl_problem.specs.Cuts.{SuitsProblem, MeetsCut}
 use Rattle.bl_problem.specs.declared.cut.Cut.{Cut}
 use Rattle.bl_desc.specs.declared.desc.Desc.{Desc}
 
--- the description has one low and one high for each column, within the limits, and at most 200 cuts, which suit the problem
+-- the description has one low and one high for each column, within the limits, and at most 200
+-- cuts, which suit the problem
 pub record Describes (p : Program) (desc : Desc Cut) : Type 0 where
   pub lows : length desc.lows ≡ length p.columns
   pub highs : length desc.highs ≡ length p.columns

@@ -7,7 +7,8 @@ use Rattle.bl_bound.specs.Bounds.{sum_at, column_part}
 
 -- the multiplier times the coefficient is taken from the sum of the term's column
 abbrev pub taken_term : ℤ → List (Option ℤ) → Term → List (Option ℤ)
-taken_term y sums t = slice_set sums t.column (checked_add (sum_at sums t.column) (Some (neg_ℤ (y *ℤ t.coefficient))))
+taken_term y sums t = slice_set sums t.column
+    (checked_add (sum_at sums t.column) (Some (neg_ℤ (y *ℤ t.coefficient))))
 
 abbrev pub taken_terms : ℤ → List Term → List (Option ℤ) → List (Option ℤ)
 taken_terms y terms sums = fold (taken_term y) sums terms

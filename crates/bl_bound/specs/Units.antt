@@ -1,5 +1,6 @@
 -- The bounds of unit multipliers: all 0, or 0 but for a 1 or a -1 at one row.
-use Rattle.std.specs.Prelude.{ℕ, zero, suc, List, length, fold, ◌≡◌, ◌≢◌, ◌<◌, ◌≤◌, ◌+◌, ◌^◌, ℤ, pos, negsuc, ◌+ℤ◌, ◌-ℤ◌, ◌*ℤ◌, Option, Some, None, All, option_map}
+use Rattle.std.specs.Prelude.{ℕ, zero, suc, List, length, fold, ◌≡◌, ◌≢◌, ◌<◌, ◌≤◌, ◌+◌, ◌^◌, ℤ}
+use Rattle.std.specs.Prelude.{pos, negsuc, ◌+ℤ◌, ◌-ℤ◌, ◌*ℤ◌, Option, Some, None, All, option_map}
 use Rattle.std.specs.Int.{int_max}
 use Rattle.bl_num.specs.Exact.{at, sum_below}
 use Rattle.bl_problem.specs.Sums.{IsWithin, total}
@@ -17,7 +18,8 @@ pub record AreBounded (columns : List Column) (lows highs : List ℤ) : Type 0 w
   pub near_lows : All (IsWithin (10 ^ 9)) lows
   pub near_highs : All (IsWithin (10 ^ 9)) highs
 
--- multipliers for the rows and then the cuts that are 0 but for at most one, which is 1 or -1 and stands at a row
+-- multipliers for the rows and then the cuts that are 0 but for at most one, which is 1 or -1
+-- and stands at a row
 pub record AreUnit (rows cuts : ℕ) (y : List ℤ) : Type 0 where
   pub width : length y ≡ rows + cuts
   pub place : ℕ
@@ -36,15 +38,18 @@ least_at lows highs j r = least_of r (at lows j) (at highs j)
 
 -- what zero multipliers give: the offset and the columns' least parts
 abbrev pub box_bound : ℤ → List ℤ → List ℤ → List ℤ → ℤ
-box_bound offset costs lows highs = offset +ℤ sum_below (length costs) (λ j. least_at lows highs j (at costs j))
+box_bound offset costs lows highs =
+    offset +ℤ sum_below (length costs) (λ j. least_at lows highs j (at costs j))
 
 -- by how much the multiplier y at coefficient a moves the least part of column j
 abbrev pub moved_by : List ℤ → List ℤ → List ℤ → ℤ → ℕ → ℤ → ℤ
-moved_by costs lows highs y j a = least_at lows highs j (at costs j -ℤ y *ℤ a) -ℤ least_at lows highs j (at costs j)
+moved_by costs lows highs y j a = least_at lows highs j (at costs j -ℤ y *ℤ a) -ℤ least_at lows
+    highs j (at costs j)
 
 -- by how much it moves those of all terms
 abbrev pub moved : List ℤ → List ℤ → List ℤ → ℤ → List Term → ℤ
-moved costs lows highs y terms = total (λ t. moved_by costs lows highs y t.column t.coefficient) terms
+moved costs lows highs y terms = total (λ t. moved_by costs lows highs y t.column t.coefficient)
+    terms
 
 -- the end that the multiplier asks for: the low one where it is positive
 abbrev pub end_of : ℤ → Option ℤ → Option ℤ → Option ℤ
@@ -54,7 +59,9 @@ end_of (negsuc n) low high = high
 
 -- what the multiplier y at the row alone gives, over what zero multipliers give
 abbrev pub row_bound : ℤ → List ℤ → List ℤ → List ℤ → ℤ → Row → Option ℤ
-row_bound base costs lows highs y row = option_map (λ e. base +ℤ moved costs lows highs y row.terms +ℤ y *ℤ e) (end_of y row.low row.high)
+row_bound base costs lows highs y row =
+    option_map (λ e. base +ℤ moved costs lows highs y row.terms +ℤ y *ℤ e)
+    (end_of y row.low row.high)
 
 -- the greater of a number and a bound, where that is there
 abbrev pub raised : ℤ → Option ℤ → ℤ
@@ -63,7 +70,9 @@ raised best (Some b) = int_max best b
 
 -- the greatest of a number and the bounds of both unit multipliers at the row
 abbrev pub raised_by : ℤ → List ℤ → List ℤ → List ℤ → ℤ → Row → ℤ
-raised_by base costs lows highs best row = raised (raised best (row_bound base costs lows highs (pos 1) row)) (row_bound base costs lows highs (negsuc 0) row)
+raised_by base costs lows highs best row =
+    raised (raised best (row_bound base costs lows highs (pos 1) row))
+    (row_bound base costs lows highs (negsuc 0) row)
 
 -- the same over all rows
 abbrev pub greatest_of : ℤ → List ℤ → List ℤ → List ℤ → List Row → ℤ

@@ -1,4 +1,5 @@
-//! Exact bounds from multipliers: weak duality over the rows and the cuts of a problem.
+//! Mathematics: exact bounds from multipliers, by weak duality over the rows and the cuts of a
+//! problem.
 #![tactic(auto)]
 
 mod lines;

@@ -27,7 +27,12 @@ pub fn line<'a>(rows: &'a [Row], cuts: &'a [Shared<Cut>], place: usize) -> LineR
 }
 
 fn row_line(row: &Row) -> LineRef<'_>
-    ensures { line_of result ≡ record { terms = row.now.terms; low = row.now.low; high = row.now.high } }
+    ensures { line_of result ≡ record {
+      terms = row.now.terms;
+      low = row.now.low;
+      high =
+          row.now.high;
+    } }
 {
     LineRef {
         terms: row.terms.as_slice(),
@@ -37,7 +42,12 @@ fn row_line(row: &Row) -> LineRef<'_>
 }
 
 fn cut_line(cut: &Cut) -> LineRef<'_>
-    ensures { line_of result ≡ record { terms = cut.now.terms; low = None; high = Some cut.now.right } }
+    ensures { line_of result ≡ record {
+      terms = cut.now.terms;
+      low = None;
+      high =
+          Some cut.now.right;
+    } }
 {
     LineRef {
         terms: cut.terms.as_slice(),

@@ -1,5 +1,5 @@
-//! Bounds of a problem with two columns X and Y from 0 to 10, costs 2 and 3, and the row 2X + 3Y >= 7,
-//! and with the cut X + Y <= 1.
+//! Bounds of a problem with two columns X and Y from 0 to 10, costs 2 and 3, and the row 2X + 3Y
+//! >= 7, and with the cut X + Y <= 1.
 ghost use Rattle.std.specs.Prelude.{◌≡◌, [], ◌∷◌, Some, None, pos, length, IfOk};
 
 use crate::{bound, empty, greatest_unit_bound};

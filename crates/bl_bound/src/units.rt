@@ -1,12 +1,14 @@
 //! The greatest of the bounds that unit multipliers give.
-ghost use Rattle.std.specs.Prelude.{◌≡◌, ◌^◌, ◌*◌, ◌≤ℤ◌, ◌-ℤ◌, length, pos, List, ℤ, Some, All, IfSome};
+ghost use Rattle.std.specs.Prelude.{◌≡◌, ◌^◌, ◌*◌, ◌≤ℤ◌, ◌-ℤ◌, length, pos, List, ℤ, Some, All};
+ghost use Rattle.std.specs.Prelude.{IfSome};
 ghost use Rattle.bl_problem.specs.Sums.{IsWithin};
 ghost use Rattle.bl_problem.specs.Rows.{AreTerms};
 ghost use Rattle.bl_problem.specs.Program.{IsRow};
 ghost use Rattle.bl_problem.specs.Points.{costs_of, value_of};
 ghost use Rattle.bl_bound.specs.Bounds.{bound_of};
 ghost use Rattle.bl_bound.specs.Descriptions.{Describes, IsLeft};
-ghost use Rattle.bl_bound.specs.Units.{AreBounded, AreUnit, least_of, box_bound, moved, end_of, row_bound, raised, greatest_of};
+ghost use Rattle.bl_bound.specs.Units.{AreBounded, AreUnit, least_of, box_bound, moved, end_of};
+ghost use Rattle.bl_bound.specs.Units.{row_bound, raised, greatest_of};
 
 use bl_desc::Desc;
 use bl_num::product;
@@ -113,14 +115,17 @@ fn greatest(columns: &[Column], lows: &[i64], highs: &[i64], base: i128, rows: &
     best
 }
 
-/// The greatest of the bounds over the denominator 1 of all unit multipliers: those that are 0, or 0
-/// but for a 1 or a -1 at one row. No feasible point of the description's box that meets its cuts has
-/// a smaller value. In one pass over the rows' terms; takes no memory.
+/// The greatest of the bounds over the denominator 1 of all unit multipliers: those that are 0,
+/// or 0 but for a 1 or a -1 at one row. No feasible point of the description's box that meets
+/// its cuts has a smaller value. In one pass over the rows' terms; takes no memory.
 pub fn greatest_unit_bound(problem: &Problem, desc: &Desc<Cut>) -> i128
     requires suits { Describes problem.now desc.now }
-    ensures greatest { (y : List ℤ) → AreUnit (length problem.now.rows) (length desc.now.cuts) y → IfSome (bound_of problem.now desc.now y (pos 1)) (λ b. b ≤ℤ result) }
-    ensures reached { (y : List ℤ) × (AreUnit (length problem.now.rows) (length desc.now.cuts) y × (bound_of problem.now desc.now y (pos 1) ≡ Some result)) }
-    ensures below { (x : List ℤ) → IsLeft problem.now desc.now x → result ≤ℤ value_of problem.now x }
+    ensures greatest { (y : List ℤ) → AreUnit (length problem.now.rows) (length desc.now.cuts) y
+        → IfSome (bound_of problem.now desc.now y (pos 1)) (λ b. b ≤ℤ result) }
+    ensures reached { (y : List ℤ) × (AreUnit (length problem.now.rows) (length desc.now.cuts) y
+        × (bound_of problem.now desc.now y (pos 1) ≡ Some result)) }
+    ensures below { (x : List ℤ) → IsLeft problem.now desc.now x
+        → result ≤ℤ value_of problem.now x }
 {
     let columns = problem.columns();
     let (lows, highs) = (desc.lows.as_slice(), desc.highs.as_slice());

@@ -3,7 +3,8 @@ ghost use Rattle.std.specs.Prelude.{◌≡◌, ℕ, ◌+◌, ◌<◌, ◌≤◌,
 ghost use Rattle.bl_num.specs.Exact.{at};
 ghost use Rattle.bl_fixed.specs.Fixed.{one, floor_of};
 ghost use Rattle.bl_branch.specs.Rules.{IsSplittable, Splits};
-ghost use Rattle.bl_branch.specs.Fractions.{fraction_of, gap_of, floor_within, IsNearest, IsMostFractional};
+ghost use Rattle.bl_branch.specs.Fractions.{fraction_of, gap_of, floor_within, IsNearest};
+ghost use Rattle.bl_branch.specs.Fractions.{IsMostFractional};
 
 use crate::halving::half;
 use crate::place::Place;

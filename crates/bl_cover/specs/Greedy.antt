@@ -1,5 +1,7 @@
 -- The greedy cover of a row at a point, and the first that the point breaks.
-use Rattle.std.specs.Prelude.{◌≡◌, ◌<◌, ◌^◌, ℕ, suc, List, [], ◌∷◌, length, map, take, ℤ, pos, ◌-ℤ◌, ◌*ℤ◌, ◌≤ℤ◌, Bool, ◌&&◌, ◌||◌, nat_lt, int_lt, Option, Some, None, option_map, if◌then◌else◌, slice_index_or}
+use Rattle.std.specs.Prelude.{◌≡◌, ◌<◌, ◌^◌, ℕ, suc, List, [], ◌∷◌, length, map, take, ℤ, pos}
+use Rattle.std.specs.Prelude.{◌-ℤ◌, ◌*ℤ◌, ◌≤ℤ◌, Bool, ◌&&◌, ◌||◌, nat_lt, int_lt, Option, Some}
+use Rattle.std.specs.Prelude.{None, option_map, if◌then◌else◌, slice_index_or}
 use Rattle.std.specs.List.{filter}
 use Rattle.std.specs.List.Sorted.{IsPermutation, IsSortedBy, IsStrictlyIncreasing}
 use Rattle.std.specs.Ordering.{int_eq}
@@ -24,7 +26,12 @@ abbrev pub raw_at : List Fixed → ℕ → ℤ
 raw_at point j = (slice_index_or point j (record { raw = pos 0 })).raw
 
 abbrev pub candidate_of : List Fixed → Term → Candidate
-candidate_of point t = record { column = t.column; coefficient = t.coefficient; entry = raw_at point t.column }
+candidate_of point t = record {
+  column = t.column;
+  coefficient = t.coefficient;
+  entry =
+      raw_at point t.column;
+}
 
 abbrev pub listed : List Column → List Fixed → Term → List Candidate
 listed columns point t = if may_cover columns t then candidate_of point t ∷ [] else []
@@ -48,7 +55,8 @@ pub record IsOrderOf (listed order : List Candidate) : Type 0 where
 -- how many are taken one by one until their coefficients are above the room, if ever
 abbrev pub cover_size : ℤ → List Candidate → Option ℕ
 cover_size room [] = if int_lt room (pos 0) then Some 0 else None
-cover_size room (c ∷ order) = if int_lt room (pos 0) then Some 0 else option_map (λ k. suc k) (cover_size (room -ℤ c.coefficient) order)
+cover_size room (c ∷ order) = if int_lt room (pos 0) then Some 0
+    else option_map (λ k. suc k) (cover_size (room -ℤ c.coefficient) order)
 
 -- the sum of the entries is above their number less 1
 abbrev pub is_broken : List Candidate → Bool
@@ -67,8 +75,10 @@ broken_size (Some room) order = broken_by order (cover_size room order)
 abbrev pub room_of : List Column → Row → Option ℤ
 room_of columns row = option_map (λ u. u -ℤ least_sum columns row.terms) row.high
 
--- the columns that the greedy order takes at the row, in rising order, where the point breaks their cover
-pub record IsGreedyCover (columns : List Column) (point : List Fixed) (row : Row) (cover : List ℕ) : Type 0 where
+-- the columns that the greedy order takes at the row, in rising order, where the point breaks
+-- their cover
+pub record IsGreedyCover (columns : List Column) (point : List Fixed) (row : Row)
+    (cover : List ℕ) : Type 0 where
   pub order : List Candidate
   pub is_order : IsOrderOf (candidates columns point row.terms) order
   pub size : ℕ
@@ -76,7 +86,8 @@ pub record IsGreedyCover (columns : List Column) (point : List Fixed) (row : Row
   pub same : IsPermutation (map column_of (take size order)) cover
   pub rising : IsStrictlyIncreasing cover
 
--- the row has no high end, or all its candidates together are within the room, or the point meets their cover
+-- the row has no high end, or all its candidates together are within the room, or the point
+-- meets their cover
 pub record HasNoGreedyCover (columns : List Column) (point : List Fixed) (row : Row) : Type 0 where
   pub order : List Candidate
   pub is_order : IsOrderOf (candidates columns point row.terms) order
@@ -86,11 +97,15 @@ abbrev pub IsCoverOf : List Column → List Fixed → Row → Option (List ℕ) 
 IsCoverOf columns point row None = HasNoGreedyCover columns point row
 IsCoverOf columns point row (Some cover) = IsGreedyCover columns point row cover
 
--- the greedy cover of the first row that has one that the point breaks, or None where there is no such row
+-- the greedy cover of the first row that has one that the point breaks, or None where there is
+-- no such row
 abbrev pub IsFirstCover : Program → List Fixed → Option Try → Type 0
-IsFirstCover p point None = (k : ℕ) → k < length p.rows → HasNoGreedyCover p.columns point (row_at p.rows k)
+IsFirstCover p point None = (k : ℕ) → k < length p.rows
+    → HasNoGreedyCover p.columns point (row_at p.rows k)
 IsFirstCover p point (Some (Weights pick)) = ⊥
-IsFirstCover p point (Some (Cover i columns)) = (i < length p.rows) × IsGreedyCover p.columns point (row_at p.rows i) columns × ((k : ℕ) → k < i → HasNoGreedyCover p.columns point (row_at p.rows k))
+IsFirstCover p point (Some (Cover i columns)) = (i < length p.rows)
+    × IsGreedyCover p.columns point (row_at p.rows i) columns
+    × ((k : ℕ) → k < i → HasNoGreedyCover p.columns point (row_at p.rows k))
 
 -- a candidate within the limits
 pub record IsCandidate (c : Candidate) : Type 0 where

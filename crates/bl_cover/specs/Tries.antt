@@ -1,5 +1,6 @@
 -- What may be tried, and what the kinds of cuts try.
-use Rattle.std.specs.Prelude.{◌≡◌, ◌<◌, ◌+◌, ◌⊎◌, List, length, pos, ◌≤ℤ◌, Ok, Option, Some, None, option_map}
+use Rattle.std.specs.Prelude.{◌≡◌, ◌<◌, ◌+◌, ◌⊎◌, List, length, pos, ◌≤ℤ◌, Ok, Option, Some, None}
+use Rattle.std.specs.Prelude.{option_map}
 use Rattle.bl_fixed.specs.declared.Fixed.{Fixed}
 use Rattle.bl_mods.specs.declared.mods.ItemId.{ItemId}
 use Rattle.bl_problem.specs.Program.{Program}
@@ -16,13 +17,15 @@ use Rattle.bl_cover.specs.declared.separator.Try.TheVariants.{Weights, Cover}
 
 -- one weight per row and cut and a divisor of at least 1, or a row of the problem
 abbrev pub HasShape : Program → Desc Cut → Try → Type 0
-HasShape p desc (Weights pick) = (length pick.weights ≡ length p.rows + length desc.cuts) × (pos 1 ≤ℤ pick.q)
+HasShape p desc (Weights pick) = (length pick.weights ≡ length p.rows + length desc.cuts)
+    × (pos 1 ≤ℤ pick.q)
 HasShape p desc (Cover i columns) = i < length p.rows
 
 -- a cover that `cover_cut` refuses for no cause but want of memory
 abbrev pub IsAccepted : Program → Try → Type 0
 IsAccepted p (Weights pick) = ⊥
-IsAccepted p (Cover i columns) = (i < length p.rows) × ((id : ItemId) → cover_of p i columns id ≡ Ok (all_but_one id columns))
+IsAccepted p (Cover i columns) = (i < length p.rows)
+    × ((id : ItemId) → cover_of p i columns id ≡ Ok (all_but_one id columns))
 
 -- a candidate over one row
 abbrev pub IsRowTry : Program → Desc Cut → Try → Type 0
@@ -46,4 +49,5 @@ IsRowsElse covers None answer = covers answer
 abbrev pub AnswersAs : CutKinds → Program → Desc Cut → List Fixed → Option Try → Type 0
 AnswersAs Rows p desc point answer = answer ≡ weights_of (first_broken p desc.cuts point)
 AnswersAs Covers p desc point answer = IsFirstCover p point answer
-AnswersAs Both p desc point answer = IsRowsElse (IsFirstCover p point) (weights_of (first_broken p desc.cuts point)) answer
+AnswersAs Both p desc point answer =
+    IsRowsElse (IsFirstCover p point) (weights_of (first_broken p desc.cuts point)) answer

@@ -1,10 +1,12 @@
 // The greedy cover of a row at a point.
-ghost use Rattle.std.specs.Prelude.{◌≡◌, ◌≤◌, ◌<◌, ◌^◌, ◌++◌, length, map, All, IfOk, OnOk, IfSome, nat_eq};
+ghost use Rattle.std.specs.Prelude.{◌≡◌, ◌≤◌, ◌<◌, ◌^◌, ◌++◌, length, map, All, IfOk, OnOk};
+ghost use Rattle.std.specs.Prelude.{IfSome, nat_eq};
 ghost use Rattle.std.specs.List.{IsDistinct};
 ghost use Rattle.std.specs.List.Sorted.{IsPermutation, IsStrictlyIncreasing};
 ghost use Rattle.bl_problem.specs.Sums.{IsWithin};
 ghost use Rattle.bl_problem.specs.Rows.{AreTerms};
-ghost use Rattle.bl_cover.specs.Greedy.{listed, candidates, IsOrderOf, cover_size, is_broken, broken_size, column_of, IsCandidate};
+ghost use Rattle.bl_cover.specs.Greedy.{listed, candidates, IsOrderOf, cover_size, is_broken};
+ghost use Rattle.bl_cover.specs.Greedy.{broken_size, column_of, IsCandidate};
 
 use crate::knapsack::is_binary;
 use bl_fixed::Fixed;
@@ -68,7 +70,8 @@ pub fn list_in_order(
 ) -> Result<(), AllocError>
     requires width { length point.now ≡ length columns.now }
     requires terms { AreTerms (length columns.now) terms.now }
-    ensures { IfOk result (λ u. IsOrderOf (candidates columns.now point.now terms.now) order.new.items) }
+    ensures { IfOk result (λ u. IsOrderOf (candidates columns.now point.now terms.now)
+        order.new.items) }
 {
     list(order, columns, terms, point)?;
     order.sort_unstable_by_key(|candidate| (Reverse(candidate.entry), candidate.column));

@@ -1,11 +1,13 @@
 // A row as a knapsack: what its terms take at least, and the columns that may stand in a cover.
-ghost use Rattle.std.specs.Prelude.{◌≡◌, ◌≤◌, ◌<◌, ◌^◌, length, All, AllPairs, IfErr, IfOk, None, Some};
+ghost use Rattle.std.specs.Prelude.{◌≡◌, ◌≤◌, ◌<◌, ◌^◌, length, All, AllPairs, IfErr, IfOk, None};
+ghost use Rattle.std.specs.Prelude.{Some};
 ghost use Rattle.std.specs.Int.{int_min};
 ghost use Rattle.bl_num.specs.Exact.{at};
 ghost use Rattle.bl_problem.specs.Program.{IsColumn};
 ghost use Rattle.bl_problem.specs.Rows.{AreTerms, coefficient_of};
 ghost use Rattle.bl_problem.specs.Sums.{IsWithin};
-ghost use Rattle.bl_cover.specs.Covers.{least_of, least_sum, is_binary, is_coverable, first_misfit, listed_sum};
+ghost use Rattle.bl_cover.specs.Covers.{least_of, least_sum, is_binary, is_coverable};
+ghost use Rattle.bl_cover.specs.Covers.{first_misfit, listed_sum};
 
 use bl_num::product;
 use bl_problem::{Column, Term};
@@ -62,8 +64,10 @@ pub fn least_sum(columns: &[Column], terms: &[Term]) -> i128
 pub fn listed_sum(columns: &[Column], terms: &[Term], listed: &[u32]) -> Result<i128, u32>
     requires few { length columns.now ≤ 1000 }
     requires terms { AreTerms (length columns.now) terms.now }
-    ensures misfit { IfErr result (λ place. first_misfit columns.now terms.now listed.now (length listed.now) ≡ Some place) }
-    ensures fits { IfOk result (λ sum. first_misfit columns.now terms.now listed.now (length listed.now) ≡ None) }
+    ensures misfit { IfErr result (λ place. first_misfit columns.now terms.now listed.now
+        (length listed.now) ≡ Some place) }
+    ensures fits { IfOk result (λ sum. first_misfit columns.now terms.now listed.now
+        (length listed.now) ≡ None) }
     ensures exact { IfOk result (λ sum. sum ≡ listed_sum terms.now listed.now) }
     ensures near { IfOk result (IsWithin (10 ^ 18)) }
     ensures few_listed { IfOk result (λ sum. length listed.now ≤ 1000) }

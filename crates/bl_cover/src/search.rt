@@ -50,12 +50,13 @@ fn greedy_cover(
     }
 }
 
-/// The first cover that the point breaks, found greedily. For each row with a high end in order, its positive terms on columns
-/// of the problem's bounds 0 and 1 are taken one by one, by greatest entry of the point, then least
-/// column, until they and the least sum of the row, by the problem's own bounds, are above the high
-/// end. The answer is the first row, and the taken columns in rising order, where the sum of their
-/// entries is above their number less 1, exactly in units of 2^-40. None comes exactly where there is
-/// no such row; `AllocError` only for want of memory. `cover_cut` makes a cut of the answer.
+/// The first cover that the point breaks, found greedily. For each row with a high end in order,
+/// its positive terms on columns of the problem's bounds 0 and 1 are taken one by one, by
+/// greatest entry of the point, then least column, until they and the least sum of the row, by
+/// the problem's own bounds, are above the high end. The answer is the first row, and the taken
+/// columns in rising order, where the sum of their entries is above their number less 1, exactly
+/// in units of 2^-40. None comes exactly where there is no such row; `AllocError` only for want
+/// of memory. `cover_cut` makes a cut of the answer.
 pub fn find_cover(
     alloc: Global,
     problem: &Problem,

@@ -38,8 +38,8 @@ pub trait Separate: Sync {
     ghost allows: { Self → Program → TheDesc TheCut → TheTry → Type 0 };
 
     /// A proposal at a point of one entry per column, each of raw size at most 2^70, or None. It is
-    /// allowed there; weights have one entry per row and then one per cut, and a divisor of at least
-    /// 1; a cover's row is one of the problem's. `AllocError` only for want of memory.
+    /// allowed there; weights have one entry per row and then one per cut, and a divisor of at
+    /// least 1; a cover's row is one of the problem's. `AllocError` only for want of memory.
     fn ask(
         &self,
         alloc: Global,
@@ -50,7 +50,8 @@ pub trait Separate: Sync {
         requires suits { Describes problem.now desc.now }
         requires width { length point.now ≡ length problem.now.columns }
         requires near { All (λ x. IsWithin (2 ^ 70) x.raw) point.now }
-        ensures allowed { IfOk result (λ answer. IfSome answer (allows self.now problem.now desc.now)) }
+        ensures allowed { IfOk result
+            (λ answer. IfSome answer (allows self.now problem.now desc.now)) }
         ensures shape { IfOk result (λ answer. IfSome answer (HasShape problem.now desc.now)) };
 }
 
@@ -94,7 +95,8 @@ impl Separate for KindSeparator {
         requires suits { Describes problem.now desc.now }
         requires width { length point.now ≡ length problem.now.columns }
         requires near { All (λ x. IsWithin (2 ^ 70) x.raw) point.now }
-        ensures allowed { IfOk result (λ answer. IfSome answer (AllowedBy self.now.kinds problem.now desc.now)) }
+        ensures allowed { IfOk result
+            (λ answer. IfSome answer (AllowedBy self.now.kinds problem.now desc.now)) }
         ensures shape { IfOk result (λ answer. IfSome answer (HasShape problem.now desc.now)) }
         ensures answers { IfOk result (AnswersAs self.now.kinds problem.now desc.now point.now) }
     {
@@ -119,7 +121,8 @@ fn from_rows(
     requires suits { Describes problem.now desc.now }
     requires width { length point.now ≡ length problem.now.columns }
     requires near { All (λ x. IsWithin (2 ^ 70) x.raw) point.now }
-    ensures exact { IfOk result (λ answer. answer ≡ weights_of (first_broken problem.now desc.now.cuts point.now)) }
+    ensures exact { IfOk result (λ answer. answer
+        ≡ weights_of (first_broken problem.now desc.now.cuts point.now)) }
     ensures candidate { IfOk result (λ answer. IfSome answer (IsRowTry problem.now desc.now)) }
     ensures shape { IfOk result (λ answer. IfSome answer (HasShape problem.now desc.now)) }
 {

@@ -1,5 +1,7 @@
 -- A point's entries, split one by one.
-use Rattle.std.proofs.Common.{◌≡◌, ℕ, zero, suc, ◌+◌, ◌<◌, ◌^◌, ℤ, pos, ◌+ℤ◌, ◌*ℤ◌, ◌≤ℤ◌, arith, List, [], ◌∷◌, ◌++◌, length, get_or, take, All, refl, sym, ◌∙◌, ap, ⊎_elim}
+use Rattle.std.proofs.Common.{◌≡◌, ℕ, zero, suc, ◌+◌, ◌<◌, ◌^◌, ℤ, pos, ◌+ℤ◌, ◌*ℤ◌, ◌≤ℤ◌, arith}
+use Rattle.std.proofs.Common.{List, [], ◌∷◌, ◌++◌, length, get_or, take, All, refl, sym, ◌∙◌, ap}
+use Rattle.std.proofs.Common.{⊎_elim}
 use Rattle.std.specs.Int.{int_rem_euclid}
 use Rattle.std.proofs.lemmas.Int.{ints}
 use Rattle.std.proofs.lemmas.Bool.{cases_lt}
@@ -33,8 +35,11 @@ front [] y k l = absurd (omega (arith, l))
 front (x ∷ xs) y zero l = refl
 front (x ∷ xs) y (suc k) l = front xs y k (omega (arith, l))
 
-pub pushed : (columns : List Column) (point : List Fixed) (j : ℕ) (s t : Split) (d : Column) (e : Fixed) → j < length columns → length point ≡ length columns → All IsColumn columns → All (λ (x : Fixed). IsWithin (2 ^ 70) x.raw) point
-    → Below columns point j s → IsPushed s (get_or columns j d).low (get_or point j e).raw t → Below columns point (j + 1) t
+pub pushed : (columns : List Column) (point : List Fixed) (j : ℕ) (s t : Split) (d : Column)
+    (e : Fixed) → j < length columns → length point ≡ length columns → All IsColumn columns
+    → All (λ (x : Fixed). IsWithin (2 ^ 70) x.raw) point
+    → Below columns point j s → IsPushed s (get_or columns j d).low (get_or point j e).raw t
+    → Below columns point (j + 1) t
 pushed columns point j s t d0 e0 l w cs near b p =
     let c : Column = get_or columns j d0 in
     let x : Fixed = get_or point j e0 in
@@ -51,25 +56,41 @@ pushed columns point j s t d0 e0 l w cs near b p =
     let ww = n.wholes_width in
     let pw = n.parts_width in
     record {
-      lows = ap lows_of (take_more columns j d0 l) ∙ map-append (λ (d : Column). d.low) (take j columns) (c ∷ []) ∙ ap (λ (xs : List ℤ). xs ++ c.low ∷ []) b.lows ∙ sym p.lows;
+      lows = ap lows_of (take_more columns j d0 l)
+          ∙ map-append (λ (d : Column). d.low) (take j columns) (c ∷ [])
+          ∙ ap (λ (xs : List ℤ). xs ++ c.low ∷ []) b.lows ∙ sym p.lows;
       exact = λ k m. ⊎_elim
-          (λ q. b.exact k q ∙ sym (ap (λ (xs : List ℤ). at xs k *ℤ one +ℤ at t.parts k) p.wholes ∙ ap (λ (xs : List ℤ). at (s.wholes ++ floor_of x.raw one ∷ []) k *ℤ one +ℤ at xs k) p.parts
-          ∙ ap (λ (z : ℤ). z *ℤ one +ℤ at (s.parts ++ int_rem_euclid x.raw one ∷ []) k) (front s.wholes (floor_of x.raw one) k (omega (arith, q, ww)))
-          ∙ ap (λ (z : ℤ). at s.wholes k *ℤ one +ℤ z) (front s.parts (int_rem_euclid x.raw one) k (omega (arith, q, pw)))))
+          (λ q. b.exact k q ∙ sym (ap (λ (xs : List ℤ). at xs k *ℤ one +ℤ at t.parts k) p.wholes
+          ∙ ap (λ (xs : List ℤ). at (s.wholes ++ floor_of x.raw one ∷ []) k *ℤ one +ℤ at xs k)
+          p.parts
+          ∙ ap (λ (z : ℤ). z *ℤ one +ℤ at (s.parts ++ int_rem_euclid x.raw one ∷ []) k)
+          (front s.wholes (floor_of x.raw one) k (omega (arith, q, ww)))
+          ∙ ap (λ (z : ℤ). at s.wholes k *ℤ one +ℤ z)
+          (front s.parts (int_rem_euclid x.raw one) k (omega (arith, q, pw)))))
           (λ q.
           let z : k ≡ j = omega (arith, m, q) in
-          let v : at (raws_of point) k ≡ x.raw = ap (at (raws_of point)) z ∙ at-map (λ (y : Fixed). y.raw) point j e0 (omega (arith, l, w)) in
-          v ∙ sym e ∙ sym (ap (λ (xs : List ℤ). at xs k *ℤ one +ℤ at t.parts k) p.wholes ∙ ap (λ (xs : List ℤ). at (s.wholes ++ floor_of x.raw one ∷ []) k *ℤ one +ℤ at xs k) p.parts
-          ∙ ap (λ (z : ℤ). z *ℤ one +ℤ at (s.parts ++ int_rem_euclid x.raw one ∷ []) k) (last s.wholes (floor_of x.raw one) k (omega (arith, z, ww)))
-          ∙ ap (λ (z : ℤ). floor_of x.raw one *ℤ one +ℤ z) (last s.parts (int_rem_euclid x.raw one) k (omega (arith, z, pw)))))
+          let v : at (raws_of point) k ≡ x.raw = ap (at (raws_of point)) z
+          ∙ at-map (λ (y : Fixed). y.raw) point j e0 (omega (arith, l, w)) in
+          v ∙ sym e ∙ sym (ap (λ (xs : List ℤ). at xs k *ℤ one +ℤ at t.parts k) p.wholes
+          ∙ ap (λ (xs : List ℤ). at (s.wholes ++ floor_of x.raw one ∷ []) k *ℤ one +ℤ at xs k)
+          p.parts
+          ∙ ap (λ (z : ℤ). z *ℤ one +ℤ at (s.parts ++ int_rem_euclid x.raw one ∷ []) k)
+          (last s.wholes (floor_of x.raw one) k (omega (arith, z, ww)))
+          ∙ ap (λ (z : ℤ). floor_of x.raw one *ℤ one +ℤ z)
+          (last s.parts (int_rem_euclid x.raw one) k (omega (arith, z, pw)))))
           (cases_lt k j);
       near = record {
         lows_width = rw p.lows (length-append s.lows (c.low ∷ []) ∙ ap (λ (k : ℕ). k + 1) lw);
-        wholes_width = rw p.wholes (length-append s.wholes (floor_of x.raw one ∷ []) ∙ ap (λ (k : ℕ). k + 1) ww);
-        parts_width = rw p.parts (length-append s.parts (int_rem_euclid x.raw one ∷ []) ∙ ap (λ (k : ℕ). k + 1) pw);
+        wholes_width = rw p.wholes (length-append s.wholes (floor_of x.raw one ∷ [])
+            ∙ ap (λ (k : ℕ). k + 1) ww);
+        parts_width = rw p.parts (length-append s.parts (int_rem_euclid x.raw one ∷ [])
+            ∙ ap (λ (k : ℕ). k + 1) pw);
         lows = rw p.lows (All-push (IsWithin (2 ^ 40)) s.lows c.low n.lows (omega (arith, low)));
-        wholes = rw p.wholes (All-push (IsWithin (2 ^ 40)) s.wholes (floor_of x.raw one) n.wholes whole);
-        positive = rw p.parts (All-push (λ (v : ℤ). pos 0 ≤ℤ v) s.parts (int_rem_euclid x.raw one) n.positive r.0);
-        parts = rw p.parts (All-push (IsWithin (2 ^ 40)) s.parts (int_rem_euclid x.raw one) n.parts part);
+        wholes = rw p.wholes (All-push (IsWithin (2 ^ 40)) s.wholes (floor_of x.raw one) n.wholes
+            whole);
+        positive = rw p.parts (All-push (λ (v : ℤ). pos 0 ≤ℤ v) s.parts (int_rem_euclid x.raw one)
+            n.positive r.0);
+        parts = rw p.parts (All-push (IsWithin (2 ^ 40)) s.parts (int_rem_euclid x.raw one)
+            n.parts part);
       };
     }

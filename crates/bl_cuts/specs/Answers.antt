@@ -1,5 +1,6 @@
 -- What `derive` answers.
-use Rattle.std.specs.Prelude.{◌≡◌, ℕ, List, length, ℤ, nat_le, unsigned_abs, ◌^◌, Option, Some, None, Ok, Err, if◌then◌else◌}
+use Rattle.std.specs.Prelude.{◌≡◌, ℕ, List, length, ℤ, nat_le, unsigned_abs, ◌^◌, Option, Some}
+use Rattle.std.specs.Prelude.{None, Ok, Err, if◌then◌else◌}
 use Rattle.std.specs.declared.result.Result.{Result}
 use Rattle.bl_mods.specs.declared.mods.ItemId.{ItemId}
 use Rattle.bl_problem.specs.Program.{Program}
@@ -8,18 +9,22 @@ use Rattle.bl_problem.specs.declared.cut.Cut.{Cut}
 use Rattle.bl_bound.specs.Lines.{Line, lines_of}
 use Rattle.bl_cuts.specs.declared.fault.CutFault.{CutFault}
 use Rattle.bl_cuts.specs.declared.fault.CutFault.TheVariants.{Weights, TooWide, Memory}
-use Rattle.bl_cuts.specs.Derivations.{weighted_sum, points_at_ends, ends_sum, right_of, rounded, terms_below, are_small}
+use Rattle.bl_cuts.specs.Derivations.{weighted_sum, points_at_ends, ends_sum, right_of, rounded}
+use Rattle.bl_cuts.specs.Derivations.{terms_below, are_small}
 
 -- the cut of rounded coefficients, where its right side is there and it keeps the limits
 abbrev pub cut_within : ItemId → ℕ → (ℕ → ℤ) → Option ℤ → Result Cut CutFault
 cut_within id n f None = Err TooWide
 cut_within id n f (Some right) =
-    if are_small n f then (if nat_le (unsigned_abs right) (10 ^ 30) then Ok (record { id = id; terms = terms_below n f; right = right }) else Err TooWide) else Err TooWide
+    if are_small n f then (if nat_le (unsigned_abs right) (10 ^ 30)
+    then Ok (record { id = id; terms = terms_below n f; right = right }) else Err TooWide)
+    else Err TooWide
 
 abbrev pub cut_of : ItemId → ℕ → List ℤ → List Line → List ℤ → ℤ → Result Cut CutFault
 cut_of id n lows lines w q =
     if points_at_ends (length lines) lines w
-    then cut_within id n (rounded (weighted_sum lines w) q) (right_of n (weighted_sum lines w) (ends_sum lines w) lows q)
+    then cut_within id n (rounded (weighted_sum lines w) q)
+    (right_of n (weighted_sum lines w) (ends_sum lines w) lows q)
     else Err Weights
 
 -- the cut that weights over the rows and the cuts give, divided by q, or why there is none

@@ -1,5 +1,7 @@
 -- Chvátal-Gomory cuts: a weighted sum of rows and cuts, divided and rounded down.
-use Rattle.std.specs.Prelude.{ℕ, zero, suc, List, [], ◌∷◌, ◌++◌, length, ◌^◌, ℤ, pos, negsuc, ◌-ℤ◌, ◌*ℤ◌, Bool, true, ◌&&◌, nat_le, unsigned_abs, Option, Some, None, option_map, unwrap_or, is_some}
+use Rattle.std.specs.Prelude.{ℕ, zero, suc, List, [], ◌∷◌, ◌++◌, length, ◌^◌, ℤ, pos, negsuc}
+use Rattle.std.specs.Prelude.{◌-ℤ◌, ◌*ℤ◌, Bool, true, ◌&&◌, nat_le, unsigned_abs, Option, Some}
+use Rattle.std.specs.Prelude.{None, option_map, unwrap_or, is_some}
 use Rattle.bl_num.specs.Exact.{at, floor_of}
 use Rattle.bl_num.specs.Checked.{i128_of, checked_add, checked_mul, checked_sum}
 use Rattle.bl_problem.specs.Rows.{coefficient_of}
@@ -14,7 +16,8 @@ given lines w j i = Some (at w i *ℤ coefficient_of (line_at lines i).terms j)
 abbrev pub weighted_sum : List Line → List ℤ → ℕ → Option ℤ
 weighted_sum lines w j = checked_sum (Some (pos 0)) (length lines) (given lines w j)
 
--- the end that a weight points at: the high one where it is positive, the low one where it is negative
+-- the end that a weight points at: the high one where it is positive, the low one where it is
+-- negative
 abbrev pub pointed_end : ℤ → Line → Option ℤ
 pointed_end (pos zero) line = Some (pos 0)
 pointed_end (pos (suc n)) line = line.high
@@ -23,7 +26,8 @@ pointed_end (negsuc n) line = line.low
 -- each weight points at an end that is there
 abbrev pub points_at_ends : ℕ → List Line → List ℤ → Bool
 points_at_ends zero lines w = true
-points_at_ends (suc n) lines w = points_at_ends n lines w && is_some (pointed_end (at w n) (line_at lines n))
+points_at_ends (suc n) lines w = points_at_ends n lines w
+    && is_some (pointed_end (at w n) (line_at lines n))
 
 -- the weight times the end that it points at
 abbrev pub end_value : List Line → List ℤ → ℕ → Option ℤ
@@ -46,9 +50,11 @@ checked_sub (Some a) (Some b) = i128_of (a -ℤ b)
 abbrev pub at_lows : ℕ → (ℕ → Option ℤ) → List ℤ → Option ℤ
 at_lows n f lows = checked_sum (Some (pos 0)) n (λ j. checked_mul (f j) (Some (at lows j)))
 
--- the right side: what the weighted ends leave over the lows, divided and rounded down, and moved back by the lows
+-- the right side: what the weighted ends leave over the lows, divided and rounded down, and
+-- moved back by the lows
 abbrev pub right_of : ℕ → (ℕ → Option ℤ) → Option ℤ → List ℤ → ℤ → Option ℤ
-right_of n a ends lows q = checked_add (floored (checked_sub ends (at_lows n a lows)) q) (at_lows n (λ j. floored (a j) q) lows)
+right_of n a ends lows q = checked_add (floored (checked_sub ends (at_lows n a lows)) q)
+    (at_lows n (λ j. floored (a j) q) lows)
 
 -- the coefficient of column j, where its weighted sum is there
 abbrev pub rounded : (ℕ → Option ℤ) → ℤ → ℕ → ℤ

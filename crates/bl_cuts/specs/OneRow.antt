@@ -1,5 +1,6 @@
 -- What the candidates of one row give, by that row alone.
-use Rattle.std.specs.Prelude.{◌≡◌, ◌^◌, ℕ, List, [], ◌∷◌, ◌++◌, length, ℤ, pos, ◌+ℤ◌, ◌-ℤ◌, ◌*ℤ◌, ◌≤ℤ◌, Bool, false, int_lt, All, Option, Some, None}
+use Rattle.std.specs.Prelude.{◌≡◌, ◌^◌, ℕ, List, [], ◌∷◌, ◌++◌, length, ℤ, pos, ◌+ℤ◌, ◌-ℤ◌, ◌*ℤ◌}
+use Rattle.std.specs.Prelude.{◌≤ℤ◌, Bool, false, int_lt, All, Option, Some, None}
 use Rattle.std.specs.Int.{int_rem_euclid}
 use Rattle.bl_num.specs.Exact.{at, floor_of}
 use Rattle.bl_fixed.specs.Fixed.{one}
@@ -27,7 +28,8 @@ row_right lows terms weight over q = floor_of over q +ℤ quotients_sum weight q
 
 -- the entries break it
 abbrev pub row_breaks : List ℤ → List ℤ → List Term → ℤ → ℤ → ℤ → Bool
-row_breaks lows x terms weight over q = int_lt (row_right lows terms weight over q *ℤ one) (quotients_sum weight q terms x)
+row_breaks lows x terms weight over q =
+    int_lt (row_right lows terms weight over q *ℤ one) (quotients_sum weight q terms x)
 
 -- each entry of x is a whole number of units and a part of one
 pub record IsSplit (s : Split) (x : List ℤ) : Type 0 where
@@ -46,7 +48,9 @@ pub record IsNear (n : ℕ) (s : Split) : Type 0 where
 -- the first of the terms' sizes above 1 at which the cut at an end is broken, where that is there
 abbrev pub first_by_over : List ℤ → List ℤ → ℕ → ℤ → Option ℤ → List Term → Option Candidate
 first_by_over lows x i weight None terms = None
-first_by_over lows x i weight (Some end) terms = first_size (λ c. row_breaks lows x terms weight (over_lows lows terms weight end) c.q) i weight terms
+first_by_over lows x i weight (Some end) terms =
+    first_size (λ c. row_breaks lows x terms weight (over_lows lows terms weight end) c.q) i
+    weight terms
 
 -- one more low, and one more entry, split
 pub record IsPushed (s : Split) (low raw : ℤ) (t : Split) : Type 0 where
@@ -60,7 +64,8 @@ AreAboveLows s terms = All (λ t. at s.lows t.column ≤ℤ at s.wholes t.column
 
 -- no cut is broken whose divisor times the rounded quotient is not below this
 abbrev pub IsReach : List ℤ → List ℤ → List Term → ℤ → ℤ → Type 0
-IsReach lows x terms weight reach = (over q : ℤ) → pos 1 ≤ℤ q → reach ≤ℤ (q *ℤ floor_of over q) → row_breaks lows x terms weight over q ≡ false
+IsReach lows x terms weight reach = (over q : ℤ) → pos 1 ≤ℤ q → reach ≤ℤ (q *ℤ floor_of over q)
+    → row_breaks lows x terms weight over q ≡ false
 
 abbrev pub IsOutOfReach : ℤ → ℤ → Option ℤ → Type 0
 IsOutOfReach over q None = ⊥
@@ -68,4 +73,5 @@ IsOutOfReach over q (Some reach) = reach ≤ℤ (q *ℤ floor_of over q)
 
 -- none of these divisors gives a broken cut
 abbrev pub AreUnbroken : List ℤ → List ℤ → List Term → ℤ → ℤ → List ℤ → Type 0
-AreUnbroken lows x terms weight over tried = All (λ q. row_breaks lows x terms weight over q ≡ false) tried
+AreUnbroken lows x terms weight over tried =
+    All (λ q. row_breaks lows x terms weight over q ≡ false) tried

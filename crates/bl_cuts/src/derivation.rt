@@ -35,7 +35,8 @@ pub fn derive(
     ensures exact { IsOrMemory result (derived_of problem.now cuts.now weights.now q id) }
     ensures named { IfOk result (λ cut. cut.id ≡ id) }
     ensures suits { IfOk result (SuitsProblem problem.now) }
-    ensures holds { IfOk result (λ cut. (x : List ℤ) → IsFeasible problem.now x → All (MeetsCut x) cuts.now → MeetsCut x cut) }
+    ensures holds { IfOk result (λ cut. (x : List ℤ) → IsFeasible problem.now x
+        → All (MeetsCut x) cuts.now → MeetsCut x cut) }
 {
     let (columns, rows) = (problem.columns(), problem.rows());
     if !points_at_ends(rows, cuts, weights) {

@@ -5,7 +5,8 @@ ghost use Rattle.bl_num.specs.Checked.{checked_add, checked_mul, checked_sum};
 ghost use Rattle.bl_problem.specs.Points.{lows_of};
 ghost use Rattle.bl_bound.specs.Lines.{lines_of, line_of};
 ghost use Rattle.bl_bound.specs.Bounds.{sum_at};
-ghost use Rattle.bl_cuts.specs.Derivations.{pointed_end, points_at_ends, end_value, floored, checked_sub, at_lows, right_of};
+ghost use Rattle.bl_cuts.specs.Derivations.{pointed_end, points_at_ends, end_value, floored};
+ghost use Rattle.bl_cuts.specs.Derivations.{checked_sub, at_lows, right_of};
 
 use bl_bound::{LineRef, line};
 use bl_mods::Shared;
@@ -25,7 +26,8 @@ fn pointed_end(w: i64, line: LineRef<'_>) -> Option<i128>
 // Whether each weight points at an end that is there.
 pub fn points_at_ends(rows: &[Row], cuts: &[Shared<Cut>], weights: &[i64]) -> bool
     requires { length weights.now ≡ length rows.now + length cuts.now }
-    ensures { result ≡ points_at_ends (length weights.now) (lines_of rows.now cuts.now) weights.now }
+    ensures { result ≡ points_at_ends (length weights.now) (lines_of rows.now cuts.now)
+        weights.now }
 {
     let mut all = true;
     for i in 0..weights.len() {
@@ -37,7 +39,8 @@ pub fn points_at_ends(rows: &[Row], cuts: &[Shared<Cut>], weights: &[i64]) -> bo
 // The weighted sum of the ends.
 pub fn ends_sum(rows: &[Row], cuts: &[Shared<Cut>], weights: &[i64]) -> Option<i128>
     requires { length weights.now ≡ length rows.now + length cuts.now }
-    ensures { result ≡ checked_sum (Some (pos 0)) (length weights.now) (end_value (lines_of rows.now cuts.now) weights.now) }
+    ensures { result ≡ checked_sum (Some (pos 0)) (length weights.now)
+        (end_value (lines_of rows.now cuts.now) weights.now) }
 {
     let mut sum = Some(0);
     for i in 0..weights.len() {
@@ -91,7 +94,8 @@ fn lows_sum(sums: &[Option<i128>], columns: &[Column]) -> Option<i128>
 fn floors_sum(sums: &[Option<i128>], columns: &[Column], q: i64) -> Option<i128>
     requires width { length sums.now ≡ length columns.now }
     requires counted { pos 1 ≤ℤ q }
-    ensures { result ≡ at_lows (length columns.now) (λ j. floored (sum_at sums.now j) q) (lows_of columns.now) }
+    ensures { result ≡ at_lows (length columns.now) (λ j. floored (sum_at sums.now j) q)
+        (lows_of columns.now) }
 {
     let mut sum = Some(0);
     for j in 0..columns.len() {
@@ -109,7 +113,8 @@ pub fn right_side(
 ) -> Option<i128>
     requires width { length sums.now ≡ length columns.now }
     requires counted { pos 1 ≤ℤ q }
-    ensures { result ≡ right_of (length columns.now) (sum_at sums.now) ends (lows_of columns.now) q }
+    ensures { result ≡ right_of (length columns.now) (sum_at sums.now) ends (lows_of columns.now)
+        q }
 {
     let below = floored(difference(ends, lows_sum(sums, columns)), q);
     plus(below, floors_sum(sums, columns, q))

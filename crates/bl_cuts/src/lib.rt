@@ -1,4 +1,5 @@
-//! Mathematics: Chvátal-Gomory cuts, the inequalities that weights over the rows and cuts of a problem give.
+//! Mathematics: Chvátal-Gomory cuts, the inequalities that weights over the rows and cuts of a
+//! problem give.
 #![tactic(auto)]
 
 mod columns;

@@ -1,11 +1,14 @@
 // What the candidates of one row give, by that row alone.
-ghost use Rattle.std.specs.Prelude.{◌≡◌, ◌≤◌, ◌*◌, ◌^◌, ◌≤ℤ◌, length, pos, All, List, ℤ, IfOk, OnOk, IfSome, IsTrue};
+ghost use Rattle.std.specs.Prelude.{◌≡◌, ◌≤◌, ◌*◌, ◌^◌, ◌≤ℤ◌, length, pos, All, List, ℤ, IfOk};
+ghost use Rattle.std.specs.Prelude.{OnOk, IfSome, IsTrue};
 ghost use Rattle.bl_problem.specs.Sums.{IsWithin};
 ghost use Rattle.bl_problem.specs.Rows.{AreTerms};
 ghost use Rattle.bl_problem.specs.Points.{lows_of};
 ghost use Rattle.bl_problem.specs.Program.{IsColumn};
 ghost use Rattle.bl_cuts.specs.Separations.{raws_of};
-ghost use Rattle.bl_cuts.specs.OneRow.{quotient_of, over_lows, quotients_sum, row_breaks, IsSplit, IsNear, IsPushed, AreAboveLows, IsReach, IsOutOfReach};
+ghost use Rattle.bl_cuts.specs.OneRow.{quotient_of, over_lows, quotients_sum, row_breaks};
+ghost use Rattle.bl_cuts.specs.OneRow.{IsSplit, IsNear, IsPushed, AreAboveLows, IsReach};
+ghost use Rattle.bl_cuts.specs.OneRow.{IsOutOfReach};
 
 use bl_fixed::Fixed;
 use bl_mods::Items;
@@ -104,7 +107,8 @@ pub fn row_breaks(terms: &[Term], weight: i64, over: i128, q: i64, split: &Split
     requires over { IsWithin (3 * 10 ^ 30) over }
     requires counted { pos 1 ≤ℤ q }
     requires near { IsNear (length split.now.lows) split.now }
-    ensures { (x : List ℤ) → IsSplit split.now x → result ≡ row_breaks split.now.lows x terms.now weight over q }
+    ensures { (x : List ℤ) → IsSplit split.now x → result
+        ≡ row_breaks split.now.lows x terms.now weight over q }
 {
     let right = floor_div(over, q as i128) + quotients_sum(terms, weight, q, split.lows.as_slice());
     let wholes = quotients_sum(terms, weight, q, split.wholes.as_slice());
@@ -134,7 +138,8 @@ pub fn reach(terms: &[Term], weight: i64, split: &Split) -> Option<i128>
     requires terms { AreTerms (length split.now.lows) terms.now }
     requires weight { IsWithin 1 weight }
     requires near { IsNear (length split.now.lows) split.now }
-    ensures reach { IfSome result (λ reach. (x : List ℤ) → IsSplit split.now x → IsReach split.now.lows x terms.now weight reach) }
+    ensures reach { IfSome result (λ reach. (x : List ℤ) → IsSplit split.now x
+        → IsReach split.now.lows x terms.now weight reach) }
 {
     if !is_above_lows(terms, split) {
         return None;

@@ -1,5 +1,6 @@
 // Rounded coefficients and their terms.
-ghost use Rattle.std.specs.Prelude.{◌≡◌, ◌≤◌, ◌^◌, ℕ, length, ℤ, pos, ◌≤ℤ◌, ◌++◌, IfOk, OnOk, true, unwrap_or, nat_le, unsigned_abs};
+ghost use Rattle.std.specs.Prelude.{◌≡◌, ◌≤◌, ◌^◌, ℕ, length, ℤ, pos, ◌≤ℤ◌, ◌++◌, IfOk, OnOk};
+ghost use Rattle.std.specs.Prelude.{true, unwrap_or, nat_le, unsigned_abs};
 ghost use Rattle.bl_bound.specs.Bounds.{sum_at};
 ghost use Rattle.bl_cuts.specs.Answers.{cut_within, IsOrMemory};
 ghost use Rattle.bl_cuts.specs.Derivations.{floored, rounded, term_of, terms_below, are_small};
@@ -60,7 +61,8 @@ fn terms(alloc: Global, sums: &[Option<i128>], q: i64) -> Result<Items<Term>, Al
     requires counted { pos 1 ≤ℤ q }
     requires few { length sums.now ≤ 1000 }
     requires small { are_small (length sums.now) (rounded (sum_at sums.now) q) ≡ true }
-    ensures { IfOk result (λ terms. terms ≡ terms_below (length sums.now) (rounded (sum_at sums.now) q)) }
+    ensures { IfOk result (λ terms. terms
+        ≡ terms_below (length sums.now) (rounded (sum_at sums.now) q)) }
 {
     let mut terms = Items::new(alloc);
     for j in 0..sums.len() {
@@ -79,7 +81,8 @@ pub fn finish(
 ) -> Result<Cut, CutFault>
     requires counted { pos 1 ≤ℤ q }
     requires few { length sums.now ≤ 1000 }
-    ensures { IsOrMemory result (cut_within id (length sums.now) (rounded (sum_at sums.now) q) right) }
+    ensures { IsOrMemory result
+        (cut_within id (length sums.now) (rounded (sum_at sums.now) q) right) }
 {
     let Some(right) = right else {
         return Err(CutFault::TooWide);

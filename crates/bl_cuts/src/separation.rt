@@ -1,12 +1,15 @@
 //! The first cut from one row that a point breaks.
-ghost use Rattle.std.specs.Prelude.{◌≡◌, ◌≤◌, ◌<◌, ◌+◌, ◌*◌, ◌^◌, ◌&&◌, ◌≤ℤ◌, length, pos, int_lt, unsigned_abs, All, IfOk, IfSome, List, ℤ};
+ghost use Rattle.std.specs.Prelude.{◌≡◌, ◌≤◌, ◌<◌, ◌+◌, ◌*◌, ◌^◌, ◌&&◌, ◌≤ℤ◌, length, pos};
+ghost use Rattle.std.specs.Prelude.{int_lt, unsigned_abs, All, IfOk, IfSome, List, ℤ};
 ghost use Rattle.bl_problem.specs.Sums.{IsWithin};
 ghost use Rattle.bl_problem.specs.Rows.{AreTerms};
 ghost use Rattle.bl_problem.specs.declared.cut.Cut.{Cut as TheCut};
 ghost use Rattle.bl_problem.specs.Points.{own_lows};
 ghost use Rattle.bl_bound.specs.Descriptions.{Describes};
-ghost use Rattle.bl_cuts.specs.OneRow.{row_breaks, first_by_over, IsSplit, IsNear, IsReach, AreUnbroken};
-ghost use Rattle.bl_cuts.specs.Separations.{row_at, first_size, first_in_row, is_broken, first_broken, alone, IsCandidate};
+ghost use Rattle.bl_cuts.specs.OneRow.{row_breaks, first_by_over, IsSplit, IsNear, IsReach};
+ghost use Rattle.bl_cuts.specs.OneRow.{AreUnbroken};
+ghost use Rattle.bl_cuts.specs.Separations.{row_at, first_size, first_in_row, is_broken};
+ghost use Rattle.bl_cuts.specs.Separations.{first_broken, alone, IsCandidate};
 
 use crate::one_row::{Split, is_out_of_reach, over_lows, reach, row_breaks, split_point};
 use crate::pick::Pick;
@@ -40,10 +43,14 @@ fn is_broken(
     requires weight { IsWithin 1 weight }
     requires over { IsWithin (3 * 10 ^ 30) over }
     requires near { IsNear (length split.now.lows) split.now }
-    requires reach { IfSome reach (λ reach. (x : List ℤ) → IsSplit split.now x → IsReach split.now.lows x terms.now weight reach) }
-    requires tried { (x : List ℤ) → IsSplit split.now x → AreUnbroken split.now.lows x terms.now weight over tried.old.items }
-    ensures exact { IfOk result (λ broken. (x : List ℤ) → IsSplit split.now x → broken ≡ (int_lt (pos 1) q && row_breaks split.now.lows x terms.now weight over q)) }
-    ensures tried { IfOk result (λ broken. (x : List ℤ) → IsSplit split.now x → AreUnbroken split.now.lows x terms.now weight over tried.new.items) }
+    requires reach { IfSome reach (λ reach. (x : List ℤ) → IsSplit split.now x
+        → IsReach split.now.lows x terms.now weight reach) }
+    requires tried { (x : List ℤ) → IsSplit split.now x
+        → AreUnbroken split.now.lows x terms.now weight over tried.old.items }
+    ensures exact { IfOk result (λ broken. (x : List ℤ) → IsSplit split.now x → broken
+        ≡ (int_lt (pos 1) q && row_breaks split.now.lows x terms.now weight over q)) }
+    ensures tried { IfOk result (λ broken. (x : List ℤ) → IsSplit split.now x
+        → AreUnbroken split.now.lows x terms.now weight over tried.new.items) }
 {
     if q <= 1 {
         return Ok(false);
@@ -84,7 +91,9 @@ fn first_size(
     requires weight { IsWithin 1 weight }
     requires over { IsWithin (3 * 10 ^ 30) over }
     requires near { IsNear (length split.now.lows) split.now }
-    ensures exact { IfOk result (λ first. (x : List ℤ) → IsSplit split.now x → first ≡ first_size (λ c. row_breaks split.now.lows x terms.now weight over c.q) row weight terms.now) }
+    ensures exact { IfOk result (λ first. (x : List ℤ) → IsSplit split.now x → first
+        ≡ first_size (λ c. row_breaks split.now.lows x terms.now weight over c.q) row weight
+        terms.now) }
     ensures named { IfOk result (λ first. IfSome first (λ c. c.row ≡ row)) }
 {
     let reach = reach(terms, weight, split);
@@ -112,7 +121,8 @@ fn first_at_end(
     requires weight { IsWithin 1 weight }
     requires end { IfSome end (IsWithin (10 ^ 24)) }
     requires near { IsNear (length split.now.lows) split.now }
-    ensures exact { IfOk result (λ first. (x : List ℤ) → IsSplit split.now x → first ≡ first_by_over split.now.lows x row weight end terms.now) }
+    ensures exact { IfOk result (λ first. (x : List ℤ) → IsSplit split.now x → first
+        ≡ first_by_over split.now.lows x row weight end terms.now) }
     ensures named { IfOk result (λ first. IfSome first (λ c. c.row ≡ row)) }
 {
     match end {
@@ -134,7 +144,8 @@ fn first_in_row(
     requires row { row < length problem.now.rows }
     requires lows { split.now.lows ≡ own_lows problem.now }
     requires near { IsNear (length split.now.lows) split.now }
-    ensures exact { IfOk result (λ first. (cuts : List TheCut) (x : List ℤ) → IsSplit split.now x → first ≡ first_in_row (is_broken problem.now cuts x) row (row_at problem.now.rows row)) }
+    ensures exact { IfOk result (λ first. (cuts : List TheCut) (x : List ℤ) → IsSplit split.now x
+        → first ≡ first_in_row (is_broken problem.now cuts x) row (row_at problem.now.rows row)) }
     ensures named { IfOk result (λ first. IfSome first (λ c. c.row ≡ row)) }
 {
     let rows = problem.rows();
@@ -173,7 +184,8 @@ pub fn separate(
     requires near { All (λ x. IsWithin (2 ^ 70) x.raw) point.now }
     ensures exact { IfOk result (λ pick. pick ≡ first_broken problem.now desc.now.cuts point.now) }
     ensures candidate { IfOk result (λ pick. IfSome pick (IsCandidate problem.now desc.now.cuts)) }
-    ensures width { IfOk result (λ pick. IfSome pick (λ pick. length pick.weights ≡ length problem.now.rows + length desc.now.cuts)) }
+    ensures width { IfOk result (λ pick. IfSome pick
+        (λ pick. length pick.weights ≡ length problem.now.rows + length desc.now.cuts)) }
     ensures counted { IfOk result (λ pick. IfSome pick (λ pick. pos 1 ≤ℤ pick.q)) }
 {
     let split = split_point(alloc, problem.columns(), point)?;

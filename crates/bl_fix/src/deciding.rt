@@ -1,5 +1,6 @@
 // What the gap between a bound and a cutoff leaves of the columns.
-ghost use Rattle.std.specs.Prelude.{◌≡◌, ◌≢◌, ◌≤◌, ◌<◌, ◌^◌, pos, ◌≤ℤ◌, length, All, IfOk, OnOk, unsigned_abs};
+ghost use Rattle.std.specs.Prelude.{◌≡◌, ◌≢◌, ◌≤◌, ◌<◌, ◌^◌, pos, ◌≤ℤ◌, length, All, IfOk, OnOk};
+ghost use Rattle.std.specs.Prelude.{unsigned_abs};
 ghost use Rattle.bl_num.specs.Exact.{at, floor_of};
 ghost use Rattle.bl_problem.specs.Sums.{IsWithin};
 ghost use Rattle.bl_bound.specs.Bounds.{sum_at};
@@ -89,7 +90,8 @@ pub fn decisions(
     requires highs { length highs.now ≡ length costs.now }
     requires near_lows { All (IsWithin (10 ^ 9)) lows.now }
     requires near_highs { All (IsWithin (10 ^ 9)) highs.now }
-    ensures { IfOk result (λ ds. ds ≡ decisions_below (length costs.now) gap (sum_at costs.now) lows.now highs.now) }
+    ensures { IfOk result (λ ds. ds ≡ decisions_below (length costs.now) gap (sum_at costs.now)
+        lows.now highs.now) }
 {
     let room = Vec::with_capacity(alloc, costs.len().min(MOST_DECISIONS))?;
     let mut decisions = Items::from_vec(room);

@@ -1,5 +1,6 @@
 //! Fixing by reduced costs.
-ghost use Rattle.std.specs.Prelude.{◌≡◌, ◌+◌, pos, ◌≤ℤ◌, ◌<ℤ◌, length, List, ℤ, IfOk, IfSome, IsSomeAnd};
+ghost use Rattle.std.specs.Prelude.{◌≡◌, ◌+◌, pos, ◌≤ℤ◌, ◌<ℤ◌, length, List, ℤ, IfOk, IfSome};
+ghost use Rattle.std.specs.Prelude.{IsSomeAnd};
 ghost use Rattle.bl_problem.specs.Points.{value_of};
 ghost use Rattle.bl_problem.specs.Decisions.{MeetsAll};
 ghost use Rattle.bl_bound.specs.Bounds.{bound_of};
@@ -35,9 +36,10 @@ pub fn fix(
     requires below { IsSomeAnd (bound_of problem.now desc.now y.now d) (λ b. b <ℤ cutoff) }
     ensures exact { IfOk result (λ o. o ≡ fixed_of problem.now desc.now y.now d cutoff) }
     ensures within { IfOk result (λ o. IfSome o (AreDecisions (length problem.now.columns))) }
-    ensures keeps { IfOk result (λ o. IfSome o (λ ds. (x : List ℤ) → IsLeft problem.now desc.now x → value_of problem.now x <ℤ cutoff → MeetsAll x ds)) }
+    ensures keeps { IfOk result (λ o. IfSome o (λ ds. (x : List ℤ) → IsLeft problem.now desc.now x
+        → value_of problem.now x <ℤ cutoff → MeetsAll x ds)) }
 {
-    let reduced = ReducedCosts::new(problem, desc, y, d);
+    let reduced = ReducedCosts::new(alloc, problem, desc, y, d)?;
     fix_by(alloc, problem, desc, &reduced, cutoff)
 }
 
@@ -55,9 +57,12 @@ pub fn fix_by(
     requires width { length reduced.now.costs ≡ length problem.now.columns }
     requires below { IsSomeAnd (bound_by reduced.now) (λ b. b <ℤ cutoff) }
     ensures exact { IfOk result (λ o. o ≡ fixed_of_reduced reduced.now desc.now cutoff) }
-    ensures stated { IfOk result (λ o. (y : List ℤ) → IsReduced problem.now desc.now y reduced.now → o ≡ fixed_of problem.now desc.now y reduced.now.denominator cutoff) }
+    ensures stated { IfOk result (λ o. (y : List ℤ) → IsReduced problem.now desc.now y reduced.now
+        → o ≡ fixed_of problem.now desc.now y reduced.now.denominator cutoff) }
     ensures within { IfOk result (λ o. IfSome o (AreDecisions (length problem.now.columns))) }
-    ensures keeps { IfOk result (λ o. IfSome o (λ ds. (y x : List ℤ) → IsReduced problem.now desc.now y reduced.now → IsLeft problem.now desc.now x → value_of problem.now x <ℤ cutoff → MeetsAll x ds)) }
+    ensures keeps { IfOk result
+        (λ o. IfSome o (λ ds. (y x : List ℤ) → IsReduced problem.now desc.now y reduced.now
+        → IsLeft problem.now desc.now x → value_of problem.now x <ℤ cutoff → MeetsAll x ds)) }
 {
     let columns = problem.columns();
     let Some(sum) = reduced.sum() else {

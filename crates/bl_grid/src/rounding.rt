@@ -11,7 +11,8 @@ use bl_problem::Problem;
 fn next_value(problem: &Problem, grid: i128, bound: i128) -> Option<i128>
     requires counted { pos 1 ≤ℤ grid }
     requires divides { DividesCosts problem.now grid }
-    ensures { IfSome result (λ next. (x : List ℤ) → bound ≤ℤ value_of problem.now x → next ≤ℤ value_of problem.now x) }
+    ensures { IfSome result (λ next. (x : List ℤ) → bound ≤ℤ value_of problem.now x
+        → next ≤ℤ value_of problem.now x) }
 {
     let above = sub(bound, problem.offset())?;
     let steps = mul(ceil_div(above, grid), grid)?;
@@ -22,7 +23,8 @@ fn next_value(problem: &Problem, grid: i128, bound: i128) -> Option<i128>
 fn last_cutoff(problem: &Problem, grid: i128, cutoff: i128) -> Option<i128>
     requires counted { pos 1 ≤ℤ grid }
     requires divides { DividesCosts problem.now grid }
-    ensures { IfSome result (λ last. (x : List ℤ) → value_of problem.now x <ℤ cutoff → value_of problem.now x <ℤ last) }
+    ensures { IfSome result (λ last. (x : List ℤ) → value_of problem.now x <ℤ cutoff
+        → value_of problem.now x <ℤ last) }
 {
     let limit = sub(cutoff, 1)?;
     let above = sub(limit, problem.offset())?;
@@ -35,7 +37,8 @@ fn last_cutoff(problem: &Problem, grid: i128, cutoff: i128) -> Option<i128>
 /// as a common divisor of the costs tells, in units of 10^-scale. Takes no memory.
 pub fn raised(problem: &Problem, bound: i128) -> i128
     ensures rises { bound ≤ℤ result }
-    ensures below { (x : List ℤ) → bound ≤ℤ value_of problem.now x → result ≤ℤ value_of problem.now x }
+    ensures below { (x : List ℤ) → bound ≤ℤ value_of problem.now x
+        → result ≤ℤ value_of problem.now x }
 {
     match next_value(problem, grid_of(problem), bound) {
         Some(next) if bound < next => next,
@@ -47,7 +50,8 @@ pub fn raised(problem: &Problem, bound: i128) -> i128
 /// divisor of the costs tells, in units of 10^-scale. Takes no memory.
 pub fn lowered(problem: &Problem, cutoff: i128) -> i128
     ensures falls { result ≤ℤ cutoff }
-    ensures above { (x : List ℤ) → value_of problem.now x <ℤ cutoff → value_of problem.now x <ℤ result }
+    ensures above { (x : List ℤ) → value_of problem.now x <ℤ cutoff
+        → value_of problem.now x <ℤ result }
 {
     match last_cutoff(problem, grid_of(problem), cutoff) {
         Some(last) if last < cutoff => last,

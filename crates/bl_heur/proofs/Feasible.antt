@@ -12,7 +12,8 @@ use Rattle.bl_bound.specs.Descriptions.{Describes}
 use Rattle.bl_heur.specs.Found.{IsFound}
 
 -- the entries of a point in a box within the limits are within them
-pub near-in : (lows highs x : List ℤ) → All (IsWithin (10 ^ 9)) lows → All (IsWithin (10 ^ 9)) highs → InBox lows highs x → All (IsWithin (10 ^ 9)) x
+pub near-in : (lows highs x : List ℤ) → All (IsWithin (10 ^ 9)) lows
+    → All (IsWithin (10 ^ 9)) highs → InBox lows highs x → All (IsWithin (10 ^ 9)) x
 near-in lows highs x p q b = λ k d l.
     let w = box-width lows highs x b in
     let e = box-entry lows highs x k b l in
@@ -20,7 +21,8 @@ near-in lows highs x p q b = λ k d l.
     let n = q k (pos 0) (rw w.highs l) in
     rw (at-any x k d l) (omega (arith, ints, e.0, e.1, m, n))
 
-pub found : (p : Program) (d : Desc Cut) (x : List ℤ) → Describes p d → IsFeasible p x → InBox d.lows d.highs x → IsFound p d x
+pub found : (p : Program) (d : Desc Cut) (x : List ℤ) → Describes p d → IsFeasible p x
+    → InBox d.lows d.highs x → IsFound p d x
 found p d x s f b = record {
   feasible = f;
   box = b;

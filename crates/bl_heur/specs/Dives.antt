@@ -1,5 +1,7 @@
--- Diving: the bounds are tightened, the first column of more than one value takes its low, and so on.
-use Rattle.std.specs.Prelude.{ℕ, zero, suc, ◌+◌, ◌≡◌, List, length, ℤ, Option, Some, None, int_lt, if◌then◌else◌, slice_set}
+-- Diving: the bounds are tightened, the first column of more than one value takes its low, and
+-- so on.
+use Rattle.std.specs.Prelude.{ℕ, zero, suc, ◌+◌, ◌≡◌, List, length, ℤ, Option, Some, None, int_lt}
+use Rattle.std.specs.Prelude.{if◌then◌else◌, slice_set}
 use Rattle.std.specs.Option.{option_or}
 use Rattle.bl_num.specs.Exact.{at}
 use Rattle.bl_problem.specs.Program.{Program}
@@ -18,7 +20,15 @@ box_of d = record { lows = d.lows; highs = d.highs }
 
 -- the description with another box
 abbrev pub with_box : Desc Cut → Box → Desc Cut
-with_box d b = record { lows = b.lows; highs = b.highs; cuts = d.cuts; column_status = d.column_status; row_status = d.row_status; cut_status = d.cut_status }
+with_box d b = record {
+  lows = b.lows;
+  highs = b.highs;
+  cuts = d.cuts;
+  column_status =
+      d.column_status;
+  row_status = d.row_status;
+  cut_status = d.cut_status;
+}
 
 -- the description after a decision, and after all of some
 abbrev pub narrowed_by : Desc Cut → Decision → Desc Cut
@@ -27,13 +37,15 @@ narrowed_by d e = with_box d (narrowed_at e.side (box_of d) e.column e.value)
 abbrev pub narrowed : Desc Cut → List Decision → Desc Cut
 narrowed d es = with_box d (narrowed_all (box_of d) es)
 
--- what a pass leaves to the next one: nothing where it shows that there is no point; and where it changes nothing there is no next one
+-- what a pass leaves to the next one: nothing where it shows that there is no point; and where
+-- it changes nothing there is no next one
 abbrev pub after_pass : Tightened → Desc Cut → (Desc Cut → Option (Desc Cut)) → Option (Desc Cut)
 after_pass (Empty i) d next = None
 after_pass (Changed es) d next = next (narrowed d es)
 after_pass Same d next = Some d
 
--- the description after passes until one changes nothing, but at most n. None where one shows that there is no point
+-- the description after passes until one changes nothing, but at most n. None where one shows
+-- that there is no point
 unfoldable pub propagated : ℕ → Program → Desc Cut → Option (Desc Cut)
 propagated zero p d = Some d
 propagated (suc n) p d = after_pass (tightened_of p d) d (propagated n p)
@@ -41,7 +53,8 @@ propagated (suc n) p d = after_pass (tightened_of p d) d (propagated n p)
 -- the first of the first n columns that has more than one value
 abbrev pub first_free : ℕ → List ℤ → List ℤ → Option ℕ
 first_free zero lows highs = None
-first_free (suc n) lows highs = option_or (first_free n lows highs) (if int_lt (at lows n) (at highs n) then Some n else None)
+first_free (suc n) lows highs = option_or (first_free n lows highs)
+    (if int_lt (at lows n) (at highs n) then Some n else None)
 
 -- column j takes its low
 abbrev pub at_low : Desc Cut → ℕ → Desc Cut
@@ -66,11 +79,13 @@ dived (suc n) p d = after_passes (propagated 20 p d) (dived n p)
 abbrev pub dive_of : Program → Desc Cut → Option (List ℤ)
 dive_of p d = dived (length p.columns + 1) p d
 
--- that point was tested, where there is one: it is answered exactly where it is feasible and in the description's box
+-- that point was tested, where there is one: it is answered exactly where it is feasible and in
+-- the description's box
 abbrev pub IsTestIn : Program → Desc Cut → Option (List ℤ) → Option (List ℤ) → Type 0
 IsTestIn p d None o = o ≡ None
 IsTestIn p d (Some x) o = IsTestOf (IsFound p d) x o
 
 -- more turns change nothing: a dive always ends by itself
 abbrev pub DivesEnd : Type 0
-DivesEnd = (p : Program) (d : Desc Cut) (more : ℕ) → Describes p d → dived (length p.columns + 1 + more) p d ≡ dive_of p d
+DivesEnd = (p : Program) (d : Desc Cut) (more : ℕ) → Describes p d
+    → dived (length p.columns + 1 + more) p d ≡ dive_of p d

@@ -1,4 +1,3 @@
 pub mod Rounded
 pub mod Found
 pub mod Dives
-pub mod Ratios

@@ -1,5 +1,6 @@
 //! Diving.
-ghost use Rattle.std.specs.Prelude.{◌≡◌, ℕ, ◌+◌, ◌<◌, ◌≤ℤ◌, length, List, ℤ, IfOk, OnOk, IfSome, Some, None, if◌then◌else◌};
+ghost use Rattle.std.specs.Prelude.{◌≡◌, ℕ, ◌+◌, ◌<◌, ◌≤ℤ◌, length, List, ℤ, IfOk, OnOk, IfSome};
+ghost use Rattle.std.specs.Prelude.{Some, None, if◌then◌else◌};
 ghost use Rattle.bl_num.specs.Exact.{at};
 ghost use Rattle.bl_bound.specs.Descriptions.{Describes};
 ghost use Rattle.bl_heur.specs.Found.{IsFound, IsTestOf};
@@ -18,7 +19,8 @@ const MOST_PASSES: usize = 20;
 // Passes until one changes nothing, but at most 20. False where one shows that no point is left.
 pub fn propagate(alloc: Global, problem: &Problem, desc: &mut Desc<Cut>) -> Result<bool, AllocError>
     requires suits { Describes problem.now desc.old }
-    ensures exact { IfOk result (λ some. propagated 20 problem.now desc.old ≡ (if some then Some desc.new else None)) }
+    ensures exact { IfOk result (λ some. propagated 20 problem.now desc.old
+        ≡ (if some then Some desc.new else None)) }
     ensures suits { OnOk result (Describes problem.now desc.new) }
 {
     for _ in 0..MOST_PASSES {
@@ -34,7 +36,8 @@ pub fn propagate(alloc: Global, problem: &Problem, desc: &mut Desc<Cut>) -> Resu
 // Turns until no column has more than one value. False where the dive ends without a point.
 fn descend(alloc: Global, problem: &Problem, desc: &mut Desc<Cut>) -> Result<bool, AllocError>
     requires suits { Describes problem.now desc.old }
-    ensures exact { IfOk result (λ some. dive_of problem.now desc.old ≡ (if some then Some desc.new.lows else None)) }
+    ensures exact { IfOk result (λ some. dive_of problem.now desc.old
+        ≡ (if some then Some desc.new.lows else None)) }
     ensures width { OnOk result (length desc.new.lows ≡ length desc.old.lows) }
 {
     for _ in 0..problem.columns().len() + 1 {
@@ -84,6 +87,6 @@ pub fn dive(
     if !descend(alloc, problem, &mut end)? {
         return Ok(None);
     }
-    let point = end.lows.duplicate_all()?;
+    let point = end.lows.copy_all()?;
     Ok(tested(problem, desc, point))
 }

@@ -76,7 +76,8 @@ fn pin(desc: &mut Desc<Cut>, column: u32, value: i64)
     }
 }
 
-// The description in which the column takes one value, and what passes make of it. None where they show that no point is left.
+// The description in which the column takes one value, and what passes make of it. None where
+// they show that no point is left.
 fn pinned(
     alloc: Global,
     problem: &Problem,
@@ -111,7 +112,8 @@ fn pin_whole(desc: &mut Desc<Cut>, order: &[Near])
     }
 }
 
-// The description in which the columns of whole entries take them, and what passes make of it; as it stands, where they show that no point is left.
+// The description in which the columns of whole entries take them, and what passes make of it;
+// as it stands, where they show that no point is left.
 fn start(
     alloc: Global,
     problem: &Problem,
@@ -130,7 +132,8 @@ fn start(
     }
 }
 
-// The value in the box that is nearest to the column's entry, and the one beside it. None where the column has one value.
+// The value in the box that is nearest to the column's entry, and the one beside it. None where
+// the column has one value.
 fn values(desc: &Desc<Cut>, near: Near) -> Option<(i64, i64)> {
     let low = *desc.lows.as_slice().get(near.column as usize)?;
     let high = *desc.highs.as_slice().get(near.column as usize)?;
@@ -146,7 +149,8 @@ fn values(desc: &Desc<Cut>, near: Near) -> Option<(i64, i64)> {
     Some((first, second))
 }
 
-// The column takes the first value, or the second where passes show that no point is left with the first.
+// The column takes the first value, or the second where passes show that no point is left with
+// the first.
 fn pinned_to_one(
     alloc: Global,
     problem: &Problem,
@@ -163,7 +167,8 @@ fn pinned_to_one(
     }
 }
 
-// The columns take values in this order. None where no point is left, or where too many columns are free.
+// The columns take values in this order. None where no point is left, or where too many columns
+// are free.
 fn descend_by(
     alloc: Global,
     problem: &Problem,
@@ -210,6 +215,6 @@ pub fn guided_dive(
     let Some(end) = descend_by(alloc, problem, first, order.as_slice())? else {
         return Ok(None);
     };
-    let lows = end.lows.duplicate_all()?;
+    let lows = end.lows.copy_all()?;
     Ok(tested(problem, desc, lows))
 }

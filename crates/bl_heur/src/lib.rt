@@ -5,11 +5,11 @@ mod diving;
 mod guiding;
 mod laws;
 mod narrowing;
-mod ratios;
+mod one_row;
 mod rounding;
 
 pub use diving::dive;
 pub use guiding::guided_dive;
 pub use laws::dives_end;
-pub use ratios::{RowMultiplier, row_multipliers};
+pub use one_row::{RowMultiplier, best_row_multiplier, has_large_numbers};
 pub use rounding::round_point;

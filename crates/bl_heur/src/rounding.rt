@@ -42,7 +42,7 @@ fn rounded(
     requires some { (j : ℕ) → j < length lows.now → at lows.now j ≤ℤ at highs.now j }
     ensures { IfOk result (λ x. x ≡ rounded_below (length lows.now) lows.now highs.now point.now) }
 {
-    let mut entries = Items::new(alloc);
+    let mut entries = Items::with_room(alloc, lows.len())?;
     for j in 0..lows.len() {
         entries.push(entry(point[j], lows[j], highs[j]))?;
     }
@@ -61,7 +61,8 @@ pub fn round_point(
     requires suits { Describes problem.now desc.now }
     requires some { (j : ℕ) → j < length desc.now.lows → at desc.now.lows j ≤ℤ at desc.now.highs j }
     requires width { length point.now ≡ length desc.now.lows }
-    ensures exact { IfOk result (IsTestOf (IsFeasible problem.now) (rounded_of desc.now point.now)) }
+    ensures exact { IfOk result
+        (IsTestOf (IsFeasible problem.now) (rounded_of desc.now point.now)) }
     ensures found { IfOk result (λ o. IfSome o (IsFound problem.now desc.now)) }
 {
     let entries = rounded(alloc, desc.lows.as_slice(), desc.highs.as_slice(), point)?;

@@ -1,17 +1,18 @@
-pub mod Counting
-pub mod Shrinking
-pub mod Keeping
-pub mod Taking
-pub mod Differing
-pub mod Assembly
-pub mod Adding
-pub mod Finding
-pub mod Starting
-pub mod Ending
-pub mod First
-pub mod Promising
-pub mod Testing
-pub mod Naming
-pub mod Moving
-pub mod Restating
-pub mod Siding
+mod Counting
+mod Shrinking
+mod Keeping
+mod Taking
+mod Differing
+mod Assembly
+mod Adding
+mod Finding
+mod Starting
+mod Ending
+mod First
+mod Promising
+mod Testing
+mod Naming
+mod Moving
+mod Restating
+mod Siding
+mod Renaming

@@ -26,7 +26,8 @@ abbrev pub state_with : State → Working → Bool → State
 state_with s w shut = record { work = w; limits = s.limits; made = s.made; is_shut = shut }
 
 -- the names stay where the cuts do
-named-same : (f : Desc Cut) (a b : State) → b.limits ≡ a.limits → KeepsCuts a b → AreNamed f a → AreNamed f b
+named-same : (f : Desc Cut) (a b : State) → b.limits ≡ a.limits → KeepsCuts a b → AreNamed f a
+    → AreNamed f b
 named-same f a b l k n = record {
   numbered = rw (l, k.cuts) n.numbered;
   made = rw (k.cuts, k.made) n.made;
@@ -36,28 +37,36 @@ named-same f a b l k n = record {
 }
 
 -- and so do the tries
-pub adds-none : (allows : Desc Cut → Try → Type 0) (p : Program) (f : Desc Cut) (a b : State) → b.limits ≡ a.limits → KeepsCuts a b → AddsTries allows p f a b
+pub adds-none : (allows : Desc Cut → Try → Type 0) (p : Program) (f : Desc Cut) (a b : State)
+    → b.limits ≡ a.limits → KeepsCuts a b → AddsTries allows p f a b
 adds-none allows p f a b l k = record { named = named-same f a b l k; tried = λ t. rw k.cuts t }
 
-by-then : {R S T : State → State → Type 0} (p : Program) (f : Desc Cut) (a b c : State) → (R a b → S b c → T a c) → MovesBy R p f a b → MovesBy S p f b c → MovesBy T p f a c
+by-then : {R S T : State → State → Type 0} (p : Program) (f : Desc Cut) (a b c : State)
+    → (R a b → S b c → T a c) → MovesBy R p f a b → MovesBy S p f b c → MovesBy T p f a c
 by-then p f a b c rest h k = record {
   within = k.within;
   known = λ cutoff s. k.known cutoff (h.known cutoff s);
-  shrinks = shrinks_then (box_of a.work.desc) (box_of b.work.desc) (box_of c.work.desc) h.shrinks k.shrinks;
+  shrinks = shrinks_then (box_of a.work.desc) (box_of b.work.desc) (box_of c.work.desc) h.shrinks
+      k.shrinks;
   low = let l = h.low in let m = k.low in omega (arith, ints, l, m);
   limits = k.limits ∙ h.limits;
   cuts = rest h.cuts k.cuts;
 }
 
-pub moves-then : (p : Program) (f : Desc Cut) (a b c : State) → Moves p f a b → Moves p f b c → Moves p f a c
-moves-then p f a b c = by-then p f a b c (λ h k. record { cuts = k.cuts ∙ h.cuts; made = k.made ∙ h.made })
+pub moves-then : (p : Program) (f : Desc Cut) (a b c : State) → Moves p f a b → Moves p f b c
+    → Moves p f a c
+moves-then p f a b c = by-then p f a b c
+    (λ h k. record { cuts = k.cuts ∙ h.cuts; made = k.made ∙ h.made })
 
 -- moves with new cuts come one after another
-pub cut-moves-then : (allows : Desc Cut → Try → Type 0) (p : Program) (f : Desc Cut) (a b c : State) → CutMoves allows p f a b → CutMoves allows p f b c → CutMoves allows p f a c
-cut-moves-then allows p f a b c = by-then p f a b c (λ h k. record { named = λ n. k.named (h.named n); tried = λ t. k.tried (h.tried t) })
+pub cut-moves-then : (allows : Desc Cut → Try → Type 0) (p : Program) (f : Desc Cut)
+    (a b c : State) → CutMoves allows p f a b → CutMoves allows p f b c → CutMoves allows p f a c
+cut-moves-then allows p f a b c = by-then p f a b c
+    (λ h k. record { named = λ n. k.named (h.named n); tried = λ t. k.tried (h.tried t) })
 
 -- a move that keeps the cuts is one
-pub as-cut-moves : (allows : Desc Cut → Try → Type 0) (p : Program) (f : Desc Cut) (a b : State) → Moves p f a b → CutMoves allows p f a b
+pub as-cut-moves : (allows : Desc Cut → Try → Type 0) (p : Program) (f : Desc Cut) (a b : State)
+    → Moves p f a b → CutMoves allows p f a b
 as-cut-moves allows p f a b h = record {
   within = h.within;
   known = h.known;
@@ -78,11 +87,17 @@ moves-none p f s o = record {
 }
 
 -- the work went on with the same cuts, and points may be left
-pub moves-on : (p : Program) (f : Desc Cut) (old : State) (w : Working) → old.is_shut ≡ false → ((cutoff : Option ℤ) → Stands p f cutoff old.work → Stands p f cutoff w)
-    → Narrows p f w → Shrinks (box_of old.work.desc) (box_of w.desc) → old.work.low ≤ℤ w.low → w.desc.cuts ≡ old.work.desc.cuts → Moves p f old (state_with old w old.is_shut)
+pub moves-on : (p : Program) (f : Desc Cut) (old : State) (w : Working) → old.is_shut ≡ false
+    → ((cutoff : Option ℤ) → Stands p f cutoff old.work → Stands p f cutoff w)
+    → Narrows p f w → Shrinks (box_of old.work.desc) (box_of w.desc) → old.work.low ≤ℤ w.low
+    → w.desc.cuts ≡ old.work.desc.cuts → Moves p f old (state_with old w old.is_shut)
 moves-on p f old w o stands narrows shrinks low cuts = record {
   within = λ e. narrows;
-  known = λ cutoff k. record { stands = stands cutoff k.stands; none = λ (t : IsTrue old.is_shut). absurd (false≢true (sym o ∙ t)) };
+  known = λ cutoff k. record {
+    stands = stands cutoff k.stands;
+    none =
+        λ (t : IsTrue old.is_shut). absurd (false≢true (sym o ∙ t));
+  };
   shrinks = shrinks;
   low = low;
   limits = refl;
@@ -90,8 +105,10 @@ moves-on p f old w o stands narrows shrinks low cuts = record {
 }
 
 -- the work went on with the same cuts, and no point in question is left
-pub moves-shut : (p : Program) (f : Desc Cut) (old : State) (w : Working) → ((cutoff : Option ℤ) → Stands p f cutoff old.work → Stands p f cutoff w)
-    → ((cutoff : Option ℤ) → Stands p f cutoff old.work → OfAllInQuestion p f w (λ x. ⊥)) → Shrinks (box_of old.work.desc) (box_of w.desc) → old.work.low ≤ℤ w.low
+pub moves-shut : (p : Program) (f : Desc Cut) (old : State) (w : Working)
+    → ((cutoff : Option ℤ) → Stands p f cutoff old.work → Stands p f cutoff w)
+    → ((cutoff : Option ℤ) → Stands p f cutoff old.work → OfAllInQuestion p f w (λ x. ⊥))
+    → Shrinks (box_of old.work.desc) (box_of w.desc) → old.work.low ≤ℤ w.low
     → w.desc.cuts ≡ old.work.desc.cuts → Moves p f old (state_with old w true)
 moves-shut p f old w stands none shrinks low cuts = record {
   within = λ e. absurd cc;
@@ -107,11 +124,14 @@ abbrev pub first_of : Working → Limits → State
 first_of w limits = record { work = w; limits = limits; made = 0; is_shut = false }
 
 -- at an open state nothing more is known than of its work
-pub known-first : (p : Program) (f : Desc Cut) (cutoff : Option ℤ) (w : Working) (limits : Limits) → Stands p f cutoff w → IsKnown p f cutoff (first_of w limits)
+pub known-first : (p : Program) (f : Desc Cut) (cutoff : Option ℤ) (w : Working) (limits : Limits)
+    → Stands p f cutoff w → IsKnown p f cutoff (first_of w limits)
 known-first p f cutoff w limits s = record { stands = s; none = λ t. absurd (false≢true t) }
 
 -- no cut was made yet
-pub named-first : (f : Desc Cut) (w : Working) (limits : Limits) → w.desc.cuts ≡ f.cuts → fresh_in (λ (c : Cut). c.id) f.cuts f.cuts ≡ [] → AreNamedBelow limits.seat limits.serial f.cuts
+pub named-first : (f : Desc Cut) (w : Working) (limits : Limits) → w.desc.cuts ≡ f.cuts
+    → fresh_in (λ (c : Cut). c.id) f.cuts f.cuts ≡ [] → AreNamedBelow limits.seat limits.serial
+    f.cuts
     → AreNamed f (first_of w limits)
 named-first f w limits e none b = record {
   numbered = rw (e, none) tt;
@@ -122,7 +142,9 @@ named-first f w limits e none b = record {
 }
 
 -- the first state has no cuts but the node's
-pub tried-first : (allows : Desc Cut → Try → Type 0) (p : Program) (f : Desc Cut) (w : Working) (limits : Limits) → w.desc.cuts ≡ f.cuts → fresh_in (λ (c : Cut). c.id) f.cuts f.cuts ≡ [] → AreTried allows p f (first_of w limits)
+pub tried-first : (allows : Desc Cut → Try → Type 0) (p : Program) (f : Desc Cut) (w : Working)
+    (limits : Limits) → w.desc.cuts ≡ f.cuts → fresh_in (λ (c : Cut). c.id) f.cuts f.cuts ≡ []
+    → AreTried allows p f (first_of w limits)
 tried-first allows p f w limits e none = rw (e, none) (All-nil (IsTried allows p f))
 
 -- the greater of two numbers is at least the first

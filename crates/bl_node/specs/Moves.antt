@@ -25,12 +25,15 @@ pub record KeepsCuts (old new : State) : Type 0 where
   pub made : new.made ≡ old.made
 
 -- new cuts are numbered on, and come from tries that are allowed
-pub record AddsTries (allows : Desc Cut → Try → Type 0) (p : Program) (f : Desc Cut) (old new : State) : Type 0 where
+pub record AddsTries (allows : Desc Cut → Try → Type 0) (p : Program) (f : Desc Cut)
+    (old new : State) : Type 0 where
   pub named : AreNamed f old → AreNamed f new
   pub tried : AreTried allows p f old → AreTried allows p f new
 
--- a move keeps what is known for every cutoff; the box only shrinks, the low only rises, and for the cuts R holds
-pub record MovesBy (R : State → State → Type 0) (p : Program) (f : Desc Cut) (old new : State) : Type 0 where
+-- a move keeps what is known for every cutoff; the box only shrinks, the low only rises, and for
+-- the cuts R holds
+pub record MovesBy (R : State → State → Type 0) (p : Program) (f : Desc Cut) (old new : State) :
+    Type 0 where
   pub within : IsOpen p f new
   pub known : (cutoff : Option ℤ) → IsKnown p f cutoff old → IsKnown p f cutoff new
   pub shrinks : Shrinks (box_of old.work.desc) (box_of new.work.desc)

@@ -1,13 +1,12 @@
 -- The outcomes of the work on a node.
-use Rattle.std.specs.Prelude.{◌≡◌, ◌≢◌, ◌⊎◌, ◌+◌, ◌≤◌, ℤ, ◌<ℤ◌, length, AllPairs, Option, IfSome, if◌then◌else◌}
-use Rattle.bl_mods.specs.Mods.{IsPartThenFresh}
+use Rattle.std.specs.Prelude.{◌≡◌, ◌⊎◌, ◌+◌, ◌≤◌, ℤ, ◌<ℤ◌, length, Option, IfSome, if◌then◌else◌}
 use Rattle.bl_problem.specs.Program.{Program}
 use Rattle.bl_problem.specs.Points.{value_of}
 use Rattle.bl_problem.specs.declared.cut.Cut.{Cut}
 use Rattle.bl_desc.specs.declared.desc.Desc.{Desc}
 use Rattle.bl_desc.specs.declared.desc.Form.{Form}
 use Rattle.bl_desc.specs.declared.change.Change.{Change}
-use Rattle.bl_desc.specs.Changes.{difference, IsWhole}
+use Rattle.bl_desc.specs.Changes.{difference}
 use Rattle.bl_journal.specs.Soundness.{IsSound}
 pub use Rattle.bl_journal.specs.Legality.{step_of}
 use Rattle.bl_journal.specs.declared.outcome.Outcome.{Outcome}
@@ -15,6 +14,7 @@ use Rattle.bl_journal.specs.declared.outcome.Next.TheVariants.{Shut as ShutNext,
 use Rattle.bl_journal.specs.Descriptions.{left_child, right_child}
 use Rattle.bl_journal.specs.Pieces.{piece_below}
 use Rattle.bl_branch.specs.declared.place.Place.{Place}
+use Rattle.bl_journal.specs.declared.limits.TheConstants.{MOST_STATUSES}
 use Rattle.bl_node.specs.declared.working.Working.{Working}
 use Rattle.bl_node.specs.declared.limits.Limits.{Limits}
 use Rattle.bl_desc.specs.declared.desc.Form.TheVariants.{Explicit, Relative}
@@ -23,33 +23,24 @@ use Rattle.bl_desc.specs.declared.desc.Form.TheVariants.{Explicit, Relative}
 abbrev pub common_of : Desc Cut → Desc Cut → Change Cut
 common_of f d = difference (λ c. c.id) f d
 
--- the change sets at most 512 statuses
+-- the change sets few statuses
 abbrev pub HasFewStatuses : Desc Cut → Desc Cut → Type 0
-HasFewStatuses f d = length (common_of f d).columns + length (common_of f d).rows + length (common_of f d).fresh ≤ 512
-
--- what the difference from the description f asks of d
-pub record IsChildOf (f d : Desc Cut) : Type 0 where
-  pub parent_whole : IsWhole f
-  pub whole : IsWhole d
-  pub columns : length f.lows ≡ length d.lows
-  pub rows : length f.row_status ≡ length d.row_status
-  pub few_columns : length f.lows ≤ 1000
-  pub few_rows : length f.row_status ≤ 1000
-  pub few_parent_cuts : length f.cuts ≤ 200
-  pub few_cuts : length d.cuts ≤ 200
-  pub parent_ids : AllPairs (λ a b. a.id ≢ b.id) f.cuts
-  pub ids : AllPairs (λ a b. a.id ≢ b.id) d.cuts
-  pub part : IsPartThenFresh (λ c. c.id) f.cuts d.cuts
+HasFewStatuses f d = length (common_of f d).columns + length (common_of f d).rows
+    + length (common_of f d).fresh ≤ MOST_STATUSES
 
 -- the box so far is split at the place, after the common change, and the children have this form
-pub record IsSplitOf (f : Desc Cut) (w : Working) (form : Form) (place : Place) (o : Outcome) : Type 0 where
+pub record IsSplitOf (f : Desc Cut) (w : Working) (form : Form) (place : Place) (o : Outcome) :
+    Type 0 where
   pub found : o.found ≡ w.found
   pub low : o.low ≡ w.low
-  pub next : o.next ≡ SplitNext (common_of f w.desc) place.column place.at (piece_below f form (left_child w.desc place.column place.at)) (piece_below f form (right_child w.desc place.column place.at))
+  pub next : o.next ≡ SplitNext (common_of f w.desc) place.column place.at
+      (piece_below f form (left_child w.desc place.column place.at))
+      (piece_below f form (right_child w.desc place.column place.at))
 
 -- the node is shut, or split after the common change at a place that is allowed there
 abbrev pub IsSplitAt : (Place → Type 0) → Desc Cut → Working → Form → Outcome → Type 0
-IsSplitAt P f w form o = (o.next ≡ ShutNext) ⊎ ((place : Place) × (P place × IsSplitOf f w form place o))
+IsSplitAt P f w form o = (o.next ≡ ShutNext)
+    ⊎ ((place : Place) × (P place × IsSplitOf f w form place o))
 
 -- the outcome is sound, and a found point is below the cutoff
 pub record IsGood (p : Program) (f : Desc Cut) (cutoff : Option ℤ) (o : Outcome) : Type 0 where

@@ -1,5 +1,6 @@
 -- What the work on a node promises.
-use Rattle.std.specs.Prelude.{◌≡◌, ◌⊎◌, ℕ, ℤ, pos, ◌≤ℤ◌, ◌<ℤ◌, ◌<◌, ◌≤◌, List, [], length, All, Option, Some, None, IfSome}
+use Rattle.std.specs.Prelude.{◌≡◌, ◌⊎◌, ℕ, ℤ, pos, ◌≤ℤ◌, ◌<ℤ◌, ◌<◌, ◌≤◌, List, [], length, All}
+use Rattle.std.specs.Prelude.{Option, Some, None, IfSome}
 use Rattle.bl_num.specs.Exact.{at}
 use Rattle.bl_problem.specs.Program.{Program}
 use Rattle.bl_problem.specs.Points.{IsFeasible, value_of}
@@ -30,14 +31,18 @@ abbrev pub added_in : Next → List Cut
 added_in ShutNext = []
 added_in (SplitNext common column at left right) = common.cuts.added
 
--- the added cuts are numbered on from the serial number, and no more than may be, and come from tries that are allowed
-pub record AddsCuts (allows : Desc Cut → Try → Type 0) (p : Program) (f : Desc Cut) (limits : Limits) (next : Next) : Type 0 where
+-- the added cuts are numbered on from the serial number, and no more than may be, and come from
+-- tries that are allowed
+pub record AddsCuts (allows : Desc Cut → Try → Type 0) (p : Program) (f : Desc Cut)
+    (limits : Limits) (next : Next) : Type 0 where
   pub numbered : AreNumbered limits.seat limits.serial (added_in next)
   pub few : length (added_in next) ≤ limits.new_cuts
   pub tried : All (IsTried allows p f) (added_in next)
 
--- the node is split at a place that the rule answers, after a common change whose box meets each decision of the first pass; its low is at least each unit bound
-pub record SplitsAsPromised {F : Type 0} (g : Calls F) (closure : F) (p : Program) (f : Desc Cut) (form : Form) (o : Outcome) : Type 0 where
+-- the node is split at a place that the rule answers, after a common change whose box meets each
+-- decision of the first pass; its low is at least each unit bound
+pub record SplitsAsPromised {F : Type 0} (g : Calls F) (closure : F) (p : Program) (f : Desc Cut)
+    (form : Form) (o : Outcome) : Type 0 where
   pub place : Place
   pub work : Working
   pub point : List Fixed
@@ -64,12 +69,15 @@ HasOnePoint f = (j : ℕ) → j < length f.lows → at f.highs j ≤ℤ at f.low
 abbrev pub IsBelowCutoff : Program → Option ℤ → List ℤ → Type 0
 IsBelowCutoff p cutoff x = IfSome cutoff (λ c. value_of p x <ℤ c)
 
--- the one point of the box was tested: the node is shut, and the point is found exactly where it is feasible and below the cutoff
+-- the one point of the box was tested: the node is shut, and the point is found exactly where it
+-- is feasible and below the cutoff
 pub record IsTested (p : Program) (f : Desc Cut) (cutoff : Option ℤ) (o : Outcome) : Type 0 where
   pub shut : o.next ≡ ShutNext
-  pub found : ((o.found ≡ Some f.lows) × (IsFeasible p f.lows × IsBelowCutoff p cutoff f.lows)) ⊎ ((o.found ≡ None) × ((IsFeasible p f.lows × IsBelowCutoff p cutoff f.lows) → ⊥))
+  pub found : ((o.found ≡ Some f.lows) × (IsFeasible p f.lows × IsBelowCutoff p cutoff f.lows))
+      ⊎ ((o.found ≡ None) × ((IsFeasible p f.lows × IsBelowCutoff p cutoff f.lows) → ⊥))
 
-pub record IsPromised {F : Type 0} (g : Calls F) (closure : F) (allows : Desc Cut → Try → Type 0) (p : Program) (f : Desc Cut) (cutoff : Option ℤ) (limits : Limits) (o : Outcome) : Type 0 where
+pub record IsPromised {F : Type 0} (g : Calls F) (closure : F) (allows : Desc Cut → Try → Type 0)
+    (p : Program) (f : Desc Cut) (cutoff : Option ℤ) (limits : Limits) (o : Outcome) : Type 0 where
   pub sound : IsSound p f cutoff o.found o.low (step_of o.next)
   pub empty : SaysEmpty (tightened_of p f) → o.next ≡ ShutNext
   pub cut_off : IsCutOff p f cutoff → o.next ≡ ShutNext

@@ -12,11 +12,14 @@ use Rattle.bl_node.specs.declared.state.State.{State}
 use Rattle.bl_node.specs.Moves.{IsOpen, IsKnown}
 use Rattle.bl_node.specs.Standing.{box_of, Stands}
 
--- the state is that of a node of its own, whose box is that of the state s narrowed by the decision; its cutoff is the best value there
-pub record IsSideOf (p : Program) (f : Desc Cut) (s : State) (d : Decision) (side : Side) : Type 0 where
-  pub box : box_of side.desc ≡ narrowed_all (box_of s.work.desc) (d ∷ [])
-  pub open_box : IsOpen p side.desc side.state
-  pub known : (cutoff : Option ℤ) → Stands p f cutoff s.work → IsKnown p side.desc s.work.best side.state
+-- the state is that of a node of its own, whose box is that of the state s narrowed by the
+-- decision; its cutoff is the best value there
+pub record IsSideOf (p : Program) (f : Desc Cut) (s : State) (d : Decision) (side : Side) : Type 0
+  where
+    pub box : box_of side.desc ≡ narrowed_all (box_of s.work.desc) (d ∷ [])
+    pub open_box : IsOpen p side.desc side.state
+    pub known : (cutoff : Option ℤ) → Stands p f cutoff s.work
+        → IsKnown p side.desc s.work.best side.state
 
 -- what a point meets that doesn't meet the decision
 abbrev pub other_side : Bound → ℤ → Decision → Decision

@@ -1,5 +1,7 @@
 -- What is known while a node is worked on, of the points of its box that beat the cutoff.
-use Rattle.std.specs.Prelude.{◌≡◌, ◌≢◌, ℕ, ◌+◌, ◌<◌, ◌≤◌, ℤ, pos, ◌≤ℤ◌, ◌<ℤ◌, Bool, int_le, List, [], ◌∷◌, ◌++◌, length, All, AllPairs, Option, Some, None, IfSome, false}
+use Rattle.std.specs.Prelude.{◌≡◌, ◌≢◌, ℕ, ◌+◌, ◌<◌, ◌≤◌, ℤ, pos, ◌≤ℤ◌, ◌<ℤ◌, Bool, int_le, List}
+use Rattle.std.specs.Prelude.{[], ◌∷◌, ◌++◌, length, All, AllPairs, Option, Some, None, IfSome}
+use Rattle.std.specs.Prelude.{false}
 use Rattle.std.specs.Ordering.{int_eq}
 use Rattle.bl_num.specs.Exact.{at}
 use Rattle.bl_mods.specs.declared.mods.ItemId.{ItemId}
@@ -16,16 +18,19 @@ use Rattle.bl_journal.specs.Soundness.{IsInQuestion, cutoff_with}
 use Rattle.bl_bound.specs.Descriptions.{Describes}
 use Rattle.bl_bound.specs.Bounds.{bound_of}
 use Rattle.bl_bound.specs.Units.{AreUnit}
+use Rattle.bl_journal.specs.declared.limits.TheConstants.{MOST_BOUNDS}
 use Rattle.bl_node.specs.declared.working.Working.{Working}
 use Rattle.bl_node.specs.declared.working.Pass.{Pass}
 use Rattle.bl_node.specs.declared.working.Pass.TheVariants.{Shut, Changed, Same}
 
--- P holds of each point in question: feasible, in the node's box, and below the cutoff that is reached
+-- P holds of each point in question: feasible, in the node's box, and below the cutoff that is
+-- reached
 abbrev pub OfAllInQuestion : Program → Desc Cut → Working → (List ℤ → Type 0) → Type 0
 OfAllInQuestion p f w P = (x : List ℤ) → IsInQuestion p f w.best x → P x
 
--- at the node f of p, with this cutoff: the found point is one of the node; no point in question is outside the box
--- so far, and none has a value below the low; and the cuts hold for every feasible point
+-- at the node f of p, with this cutoff: the found point is one of the node; no point in question
+-- is outside the box so far, and none has a value below the low; and the cuts hold for every
+-- feasible point
 pub record Stands (p : Program) (f : Desc Cut) (cutoff : Option ℤ) (w : Working) : Type 0 where
   pub best_is : w.best ≡ cutoff_with p cutoff w.found
   pub found : IfSome w.found (λ x. IsFeasible p x × InBox f.lows f.highs x)
@@ -38,8 +43,8 @@ pub record Stands (p : Program) (f : Desc Cut) (cutoff : Option ℤ) (w : Workin
 abbrev pub box_of : Desc Cut → Box
 box_of d = record { lows = d.lows; highs = d.highs }
 
--- the description so far is f with a smaller box, and a part of its cuts with others behind; at most as many of its bounds
--- differ as were decided
+-- the description so far is f with a smaller box, and a part of its cuts with others behind; at
+-- most as many of its bounds differ as were decided
 pub record Narrows (p : Program) (f : Desc Cut) (w : Working) : Type 0 where
   pub describes : Describes p w.desc
   pub whole : IsWhole w.desc
@@ -51,8 +56,9 @@ pub record Narrows (p : Program) (f : Desc Cut) (w : Working) : Type 0 where
   pub highs_fall : (j : ℕ) → at w.desc.highs j ≤ℤ at f.highs j
   pub part : IsPartThenFresh (λ c. c.id) f.cuts w.desc.cuts
   pub ids : AllPairs (λ a b. a.id ≢ b.id) w.desc.cuts
-  pub few : length (differences int_eq f.lows w.desc.lows) + length (differences int_eq f.highs w.desc.highs) ≤ w.decided
-  pub decided : w.decided ≤ 256
+  pub few : length (differences int_eq f.lows w.desc.lows)
+      + length (differences int_eq f.highs w.desc.highs) ≤ w.decided
+  pub decided : w.decided ≤ MOST_BOUNDS
 
 -- the same but for the box, which is narrowed by the decisions
 pub record TakesDecisions (old : Working) (ds : List Decision) (new : Working) : Type 0 where
@@ -80,14 +86,16 @@ Leaves p f Same w = Narrows p f w
 
 -- the number is at least each unit bound
 abbrev pub IsAboveUnits : Program → Desc Cut → ℤ → Type 0
-IsAboveUnits p f low = (y : List ℤ) → AreUnit (length p.rows) (length f.cuts) y → IfSome (bound_of p f y (pos 1)) (λ b. b ≤ℤ low)
+IsAboveUnits p f low = (y : List ℤ) → AreUnit (length p.rows) (length f.cuts) y
+    → IfSome (bound_of p f y (pos 1)) (λ b. b ≤ℤ low)
 
 -- the low is at least the cutoff
 abbrev pub is_reached : ℤ → Option ℤ → Bool
 is_reached low None = false
 is_reached low (Some c) = int_le c low
 
--- the description of a node: whole, within the limits, one status for each row, and cuts with names of their own that hold for every feasible point
+-- the description of a node: whole, within the limits, one status for each row, and cuts with
+-- names of their own that hold for every feasible point
 pub record IsNode (p : Program) (f : Desc Cut) : Type 0 where
   pub describes : Describes p f
   pub whole : IsWhole f
@@ -123,7 +131,8 @@ pub record IsRestated (old new : Working) : Type 0 where
   pub low : new.low ≡ old.low
   pub decided : new.decided ≡ old.decided
 
--- a cut of this name that suits the problem, and that every feasible point meets where it meets those of the description
+-- a cut of this name that suits the problem, and that every feasible point meets where it meets
+-- those of the description
 pub record IsMade (p : Program) (d : Desc Cut) (id : ItemId) (cut : Cut) : Type 0 where
   pub named : cut.id ≡ id
   pub suits : SuitsProblem p cut

@@ -13,13 +13,15 @@ use Rattle.bl_node.specs.declared.state.State.{State}
 use Rattle.bl_node.specs.declared.working.Working.{Working}
 use Rattle.bl_node.specs.Standing.{Narrows}
 
--- the try gives the cut of this name at the description: by its weights over rows and cuts, or by the cover of a row
+-- the try gives the cut of this name at the description: by its weights over rows and cuts, or
+-- by the cover of a row
 abbrev pub Gives : Program → Desc Cut → ItemId → Try → Cut → Type 0
 Gives p d id (Weights pick) cut = derived_of p d.cuts pick.weights pick.q id ≡ Ok cut
 Gives p d id (Cover i columns) cut = cover_of p i columns id ≡ Ok cut
 
 -- the cut is what a try gives that was allowed at a description between the node's and the last one
-pub record IsTried (allows : Desc Cut → Try → Type 0) (p : Program) (f : Desc Cut) (cut : Cut) : Type 0 where
+pub record IsTried (allows : Desc Cut → Try → Type 0) (p : Program) (f : Desc Cut) (cut : Cut) :
+    Type 0 where
   pub work : Working
   pub narrows : Narrows p f work
   pub tried : Try

@@ -1,5 +1,6 @@
 // Cuts at the root: those that a separator proposes are kept where they raise the bound.
-ghost use Rattle.std.specs.Prelude.{◌≡◌, ◌+◌, ◌<◌, ◌^◌, pos, ◌≤ℤ◌, length, All, IfOk, IfSome, Ok, true, false};
+ghost use Rattle.std.specs.Prelude.{◌≡◌, ◌+◌, ◌<◌, ◌^◌, pos, ◌≤ℤ◌, length, All, IfOk, IfSome, Ok};
+ghost use Rattle.std.specs.Prelude.{true, false};
 ghost use Rattle.bl_problem.specs.Sums.{IsWithin};
 ghost use Rattle.bl_bound.specs.Descriptions.{Describes};
 ghost use Rattle.bl_cover.specs.Tries.{HasShape};
@@ -16,12 +17,10 @@ use bl_cover::{CoverFault, Separate, Try, cover_cut};
 use bl_cuts::{CutFault, derive};
 use bl_desc::Desc;
 use bl_fixed::Fixed;
+use bl_journal::MOST_CUTS;
 use bl_mods::ItemId;
 use bl_problem::{Cut, Problem};
 use std::alloc::{AllocError, Global};
-
-/// A description has at most so many cuts.
-const MOST_CUTS: usize = 200;
 
 // The cut that the weights give. None where they are refused for another cause than want of memory.
 fn derived(
@@ -36,7 +35,8 @@ fn derived(
     requires weights { length weights.now ≡ length problem.now.rows + length desc.now.cuts }
     requires counted { pos 1 ≤ℤ q }
     ensures made { IfOk result (λ made. IfSome made (IsMade problem.now desc.now id)) }
-    ensures gives { IfOk result (λ made. IfSome made (λ cut. derived_of problem.now desc.now.cuts weights.now q id ≡ Ok cut)) }
+    ensures gives { IfOk result (λ made. IfSome made
+        (λ cut. derived_of problem.now desc.now.cuts weights.now q id ≡ Ok cut)) }
 {
     match derive(alloc, problem, desc.cuts.as_slice(), weights, q, id) {
         Ok(cut) => Ok(Some(cut)),
@@ -56,7 +56,8 @@ fn covered(
 ) -> Result<Option<Cut>, AllocError>
     requires { row < length problem.now.rows }
     ensures made { IfOk result (λ made. IfSome made (IsMade problem.now desc.now id)) }
-    ensures gives { IfOk result (λ made. IfSome made (λ cut. cover_of problem.now row columns.now id ≡ Ok cut)) }
+    ensures gives { IfOk result (λ made. IfSome made
+        (λ cut. cover_of problem.now row columns.now id ≡ Ok cut)) }
 {
     match cover_cut(alloc, problem, row, columns, id) {
         Ok(cut) => Ok(Some(cut)),
@@ -101,7 +102,8 @@ pub fn add_proposed<S: Separate>(
     requires room { state.old.limits.serial + state.old.limits.new_cuts < 2 ^ 32 }
     requires width { length point.now ≡ length problem.now.columns }
     requires near { All (λ x. IsWithin (2 ^ 70) x.raw) point.now }
-    ensures { IfOk result (λ added. CutMoves (S.allows separator.now problem.now) problem.now parent.now state.old state.new) }
+    ensures { IfOk result (λ added. CutMoves (S.allows separator.now problem.now) problem.now
+        parent.now state.old state.new) }
 {
     if state.limits.new_cuts <= state.made || MOST_CUTS <= state.work.desc.cuts.len() {
         return Ok(false);

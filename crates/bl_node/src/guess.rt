@@ -38,7 +38,17 @@ fn asked_entry(entry: Fixed, is_chosen: bool) -> Fixed {
     }
 }
 
-// The point at which the rule is asked: it has one entry for each column, and the chosen column's is the most fractional.
+// The entries are those at which the rule is asked to choose the column.
+fn ask(point: &mut [Fixed], chosen: usize)
+    ensures { length point.new ≡ length point.old }
+{
+    for (j, entry) in point.iter_mut().enumerate() {
+        *entry = asked_entry(*entry, j == chosen);
+    }
+}
+
+// The point at which the rule is asked: it has one entry for each column, and the chosen
+// column's is the most fractional.
 pub fn asked_point(
     alloc: Global,
     width: usize,
@@ -54,11 +64,9 @@ pub fn asked_point(
         Some(column) => column as usize,
         None => width,
     };
-    let mut point = Vec::new(alloc);
-    for j in 0..width {
-        let entry = guess.point.get(j).copied().unwrap_or(Fixed { raw: 0 });
-        point.push(asked_entry(entry, j == chosen))?;
-    }
+    let mut point = guess.point;
+    point.resize(width, Fixed { raw: 0 })?;
+    ask(point.as_mut_slice(), chosen);
     Ok(point)
 }
 
@@ -79,7 +87,8 @@ fn distance(part: i128) -> i128 {
     }
 }
 
-// Of the columns that aren't taken, one whose entry is nearest to one half. None where all others are whole.
+// Of the columns that aren't taken, one whose entry is nearest to one half. None where all
+// others are whole.
 fn next_fractional(point: &[Fixed], taken: &[u32]) -> Option<u32> {
     let mut nearest: Option<u32> = None;
     let mut least = HALF;

@@ -1,4 +1,5 @@
 // Multipliers of earlier nodes, which are tried before a node's own are made.
+use bl_heur::has_large_numbers;
 use bl_problem::Problem;
 use bl_simplex::Prepared;
 use std::alloc::{AllocError, Global};
@@ -19,15 +20,26 @@ pub struct Multipliers {
     pub denominator: i64,
 }
 
+impl Multipliers {
+    // Other multipliers take the place of these, in their room.
+    fn become_those(&mut self, rows: &[i64], denominator: i64) -> Result<(), AllocError> {
+        self.rows.clear();
+        self.rows.extend_from_slice(rows)?;
+        self.denominator = denominator;
+        Ok(())
+    }
+}
+
 /// What the work on earlier nodes of the same problem leaves to that on later ones: the multipliers
-/// of the last few proposals, the linear program as the simplex wants it, and how many proposals
-/// there were. Nothing rests on them.
+/// of the last few proposals, the linear program as the simplex wants it, how many proposals there
+/// were, and whether the problem has large numbers. Nothing rests on them.
 #[derive(Drop)]
 pub struct Hints {
     recent: Vec<Multipliers>,
     next: usize,
     prepared: Option<Prepared>,
     proposals: u32,
+    is_large: Option<bool>,
 }
 
 impl Hints {
@@ -38,6 +50,7 @@ impl Hints {
             next: 0,
             prepared: None,
             proposals: 0,
+            is_large: None,
         }
     }
 
@@ -63,30 +76,36 @@ impl Hints {
         }
     }
 
+    // Whether the problem has large numbers, which is found out at the first call.
+    pub fn is_large(&mut self, problem: &Problem) -> bool {
+        if let Some(is_large) = self.is_large {
+            return is_large;
+        }
+        let is_large = has_large_numbers(problem);
+        self.is_large = Some(is_large);
+        is_large
+    }
+
     // The hints, in no order.
     pub fn recent(&self) -> &[Multipliers] {
         self.recent.as_slice()
     }
 
-    // Keeps the multipliers of the rows, in the place of the oldest where there are many.
+    // Keeps the multipliers of the rows, in the place of the oldest where there are many. Where
+    // there is no memory, that is lost.
     pub fn keep(
         &mut self,
         alloc: Global,
         rows: &[i64],
         denominator: i64,
     ) -> Result<(), AllocError> {
-        let mut copy = Vec::with_capacity(alloc, rows.len())?;
-        copy.extend_from_slice(rows)?;
-        let kept = Multipliers {
-            rows: copy,
-            denominator,
-        };
         if self.recent.len() < MOST_HINTS {
-            self.recent.push(kept)?;
+            let rows = Vec::from_slice(alloc, rows)?;
+            self.recent.push(Multipliers { rows, denominator })?;
             return Ok(());
         }
         if let Some(oldest) = self.recent.get_mut(self.next) {
-            *oldest = kept;
+            oldest.become_those(rows, denominator)?;
         }
         let next = self.next.saturating_add(1);
         self.next = if next < MOST_HINTS { next } else { 0 };
@@ -100,6 +119,15 @@ pub fn padded(alloc: Global, rows: &[i64], cuts: usize) -> Result<Vec<i64>, Allo
     y.extend_from_slice(rows)?;
     for _ in 0..cuts {
         y.push(0)?;
+    }
+    Ok(y)
+}
+
+// Multipliers of so many rows and cuts that are 0 but for one.
+pub fn alone(alloc: Global, lines: usize, row: usize, value: i64) -> Result<Vec<i64>, AllocError> {
+    let mut y = vec![in alloc; 0_i64; lines]?;
+    if let Some(entry) = y.get_mut(row) {
+        *entry = value;
     }
     Ok(y)
 }

@@ -6,8 +6,9 @@ ghost use Rattle.bl_node.specs.Standing.{IsNode};
 ghost use Rattle.bl_node.specs.Moves.{IsOpen, Moves, CutMoves};
 
 use crate::cutting::add_proposed;
+use crate::dropping::drop_basic;
 use crate::guess::{Guess, most_fractional, whole_below};
-use crate::hints::{Hints, padded};
+use crate::hints::{Hints, Multipliers, alone, padded};
 use crate::limits::Limits;
 use crate::node::has_two;
 use crate::sides::close_side;
@@ -17,7 +18,7 @@ use bl_cover::Separate;
 use bl_desc::Desc;
 use bl_fixed::Fixed;
 use bl_grid::lowered;
-use bl_heur::{guided_dive, round_point};
+use bl_heur::{best_row_multiplier, guided_dive, round_point};
 use bl_problem::{Cut, Decision, Problem, Side};
 use bl_simplex::{Proposal, propose_below};
 use std::alloc::{AllocError, Global};
@@ -114,6 +115,26 @@ fn keep(problem: &Problem, parent: &Desc<Cut>, state: &mut State, proposal: Prop
     }
 }
 
+// The multipliers of an earlier node shut the node or fix columns; those of its cuts are 0.
+fn fix_by_hint(
+    alloc: Global,
+    problem: &Problem,
+    parent: &Desc<Cut>,
+    state: &mut State,
+    hint: &Multipliers,
+) -> Result<(), AllocError>
+    requires { IsOpen problem.now parent.now state.old }
+    ensures { OnOk result (Moves problem.now parent.now state.old state.new) }
+{
+    let (rows, d) = (hint.rows.as_slice(), hint.denominator);
+    let cuts = state.work.desc.cuts.len();
+    if cuts == 0 {
+        return fix_by(alloc, problem, parent, state, rows, d);
+    }
+    let y = padded(alloc, rows, cuts)?;
+    fix_by(alloc, problem, parent, state, y.as_slice(), d)
+}
+
 // The hints shut the node or fix columns, where there is a cutoff.
 fn use_hints(
     alloc: Global,
@@ -129,15 +150,7 @@ fn use_hints(
         return Ok(());
     }
     for hint in hints.recent() {
-        let y = padded(alloc, hint.rows.as_slice(), state.work.desc.cuts.len())?;
-        fix_by(
-            alloc,
-            problem,
-            parent,
-            state,
-            y.as_slice(),
-            hint.denominator,
-        )?;
+        fix_by_hint(alloc, problem, parent, state, hint)?;
     }
     propagate(alloc, problem, parent, state)
 }
@@ -223,8 +236,8 @@ fn test_sides(
     Ok(())
 }
 
-// Probes the columns whose entries are the most fractional, while no point is known: then bounds and
-// fixing by reduced costs say little.
+// Probes the columns whose entries are the most fractional, while no point is known: then bounds
+// and fixing by reduced costs say little.
 fn probe_all(
     alloc: Global,
     problem: &Problem,
@@ -242,6 +255,38 @@ fn probe_all(
         probe(alloc, problem, parent, state, proposal, column)?;
     }
     Ok(())
+}
+
+// Where numbers are large, the best bound over one row raises the low, and its multiplier fixes
+// columns.
+fn bound_by_row(
+    alloc: Global,
+    problem: &Problem,
+    parent: &Desc<Cut>,
+    state: &mut State,
+    hints: &mut Hints,
+) -> Result<(), AllocError>
+    requires { IsOpen problem.now parent.now state.old }
+    ensures { OnOk result (Moves problem.now parent.now state.old state.new) }
+{
+    if state.is_shut || !hints.is_large(problem) {
+        return Ok(());
+    }
+    let Some(best) = best_row_multiplier(alloc, problem, &state.work.desc)? else {
+        return Ok(());
+    };
+    let cuts = state.work.desc.cuts.len();
+    let lines = problem.rows().len().saturating_add(cuts);
+    let y = alone(alloc, lines, best.row, best.value)?;
+    bound_by(problem, parent, state, y.as_slice(), best.denominator);
+    fix_by(
+        alloc,
+        problem,
+        parent,
+        state,
+        y.as_slice(),
+        best.denominator,
+    )
 }
 
 // One round.
@@ -265,6 +310,7 @@ fn round(
     let prepared = hints.prepared(alloc, problem)?;
     let proposal = propose_below(alloc, problem, prepared, &state.work.desc, pivots, cutoff)?;
     learn(problem, parent, state, &proposal);
+    bound_by_row(alloc, problem, parent, state, hints)?;
     try_points(alloc, problem, parent, state, &proposal)?;
     try_dive(alloc, problem, parent, state, hints, &proposal)?;
     if !state.is_shut {
@@ -338,7 +384,8 @@ fn cut_round<S: Separate>(
     requires node { IsNode problem.now parent.now }
     requires named { AreNamed parent.now state.old }
     requires room { state.old.limits.serial + state.old.limits.new_cuts < 2 ^ 32 }
-    ensures { IfOk result (λ guess. CutMoves (S.allows separator.now problem.now) problem.now parent.now state.old state.new) }
+    ensures { IfOk result (λ guess. CutMoves (S.allows separator.now problem.now) problem.now
+        parent.now state.old state.new) }
 {
     if !is_open(problem, parent, state) || !is_near(problem, point) {
         return Ok(None);
@@ -367,7 +414,8 @@ fn cut_rounds<S: Separate>(
     requires node { IsNode problem.now parent.now }
     requires named { AreNamed parent.now state.old }
     requires room { state.old.limits.serial + state.old.limits.new_cuts < 2 ^ 32 }
-    ensures { IfOk result (λ guess. CutMoves (S.allows separator.now problem.now) problem.now parent.now state.old state.new) }
+    ensures { IfOk result (λ guess. CutMoves (S.allows separator.now problem.now) problem.now
+        parent.now state.old state.new) }
 {
     let mut last = cut_round(alloc, problem, parent, separator, state, hints, first)?;
     let mut stalls = 0;
@@ -399,7 +447,8 @@ fn is_worth(state: &State, trial: &State) -> bool {
     trial.is_shut || state.work.low < trial.work.low || trial.work.found.is_some()
 }
 
-// Rounds with cuts on a copy of the state, which takes its place where they raised the bound.
+// Rounds with cuts on a copy of the state, which takes its place where they raised the bound,
+// without the cuts that are Basic at the end.
 fn try_cuts<S: Separate>(
     alloc: Global,
     problem: &Problem,
@@ -413,12 +462,14 @@ fn try_cuts<S: Separate>(
     requires node { IsNode problem.now parent.now }
     requires named { AreNamed parent.now state.old }
     requires room { state.old.limits.serial + state.old.limits.new_cuts < 2 ^ 32 }
-    ensures { IfOk result (λ guess. CutMoves (S.allows separator.now problem.now) problem.now parent.now state.old state.new) }
+    ensures { IfOk result (λ guess. CutMoves (S.allows separator.now problem.now) problem.now
+        parent.now state.old state.new) }
 {
     let mut trial = state.duplicate()?;
     let point = guess.point.as_slice();
     let last = cut_rounds(alloc, problem, parent, separator, &mut trial, hints, point)?;
     if is_worth(state, &trial) {
+        drop_basic(alloc, problem, parent, &mut trial)?;
         *state = trial;
         return Ok(last.unwrap_or(guess));
     }
@@ -443,7 +494,8 @@ pub fn improve<S: Separate>(
     requires node { IsNode problem.now parent.now }
     requires named { AreNamed parent.now state.old }
     requires room { state.old.limits.serial + state.old.limits.new_cuts < 2 ^ 32 }
-    ensures { IfOk result (λ guess. CutMoves (S.allows separator.now problem.now) problem.now parent.now state.old state.new) }
+    ensures { IfOk result (λ guess. CutMoves (S.allows separator.now problem.now) problem.now
+        parent.now state.old state.new) }
 {
     propagate(alloc, problem, parent, state)?;
     use_hints(alloc, problem, parent, state, hints)?;

@@ -1,7 +1,8 @@
-//! The work on one node of the search.
+//! Search: the work on one node.
 #![tactic(auto)]
 
 mod cutting;
+mod dropping;
 mod guess;
 mod hints;
 mod improve;

@@ -1,9 +1,11 @@
 // Probing: where no point in question meets a decision, all meet the opposite one.
-ghost use Rattle.std.specs.Prelude.{◌≡◌, ◌≢◌, ◌-◌, ◌<◌, ◌^◌, ◌∷◌, [], List, length, IfOk, IfSome, OnOk, None, true, false};
+ghost use Rattle.std.specs.Prelude.{◌≡◌, ◌≢◌, ◌-◌, ◌<◌, ◌^◌, ◌∷◌, [], List, length, IfOk, IfSome};
+ghost use Rattle.std.specs.Prelude.{OnOk, None, true, false};
 ghost use Rattle.bl_problem.specs.Sums.{IsWithin};
 ghost use Rattle.bl_problem.specs.Points.{InBox};
 ghost use Rattle.bl_problem.specs.Decisions.{Meets};
 ghost use Rattle.bl_prop.specs.Limits.{IsDecision};
+ghost use Rattle.bl_journal.specs.declared.limits.TheConstants.{MOST_BOUNDS};
 ghost use Rattle.bl_node.specs.Sides.{IsSideOf, opposite_of};
 ghost use Rattle.bl_node.specs.Standing.{OfAllInQuestion, Stands};
 ghost use Rattle.bl_node.specs.Moves.{IsOpen, Moves};
@@ -12,14 +14,12 @@ use crate::state::{State, bound_by, narrow, propagate};
 use crate::steps::{has_point, take_decision};
 use crate::working::Working;
 use bl_desc::Desc;
+use bl_journal::MOST_BOUNDS;
 use bl_problem::{Cut, Decision, Problem, Side as Bound};
 use std::alloc::{AllocError, Global};
 
 /// Decisions at the limit of bounds have no opposite.
 const MOST_VALUE: i64 = 999_999_999;
-
-/// A common change decides at most so many bounds.
-const MOST_DECIDED: usize = 256;
 
 // A node's description with one more decision, and the state of the work on it.
 #[derive(Drop)]
@@ -68,9 +68,11 @@ fn side_of(
     requires within { IsOpen problem.now parent.now state.now }
     requires open { state.now.is_shut ≡ false }
     requires decision { IsDecision (length problem.now.columns) decision }
-    requires room { state.now.work.decided < 256 }
-    ensures side { IfOk result (λ side. IfSome side (IsSideOf problem.now parent.now state.now decision)) }
-    ensures empty { IfOk result (λ side. side ≡ None → (x : List _) → InBox state.now.work.desc.lows state.now.work.desc.highs x → ¬ (Meets x decision)) }
+    requires room { state.now.work.decided < MOST_BOUNDS }
+    ensures side { IfOk result
+        (λ side. IfSome side (IsSideOf problem.now parent.now state.now decision)) }
+    ensures empty { IfOk result (λ side. side ≡ None → (x : List _)
+        → InBox state.now.work.desc.lows state.now.work.desc.highs x → ¬ (Meets x decision)) }
 {
     let mut narrower = state.work.duplicate()?;
     take_decision(&mut narrower, decision);
@@ -108,7 +110,8 @@ fn is_shut_empty(state: &State) -> bool
     }
 }
 
-// Whether propagation or the bound of the multipliers shows that no point in question meets the decision.
+// Whether propagation or the bound of the multipliers shows that no point in question meets the
+// decision.
 fn is_closed(
     alloc: Global,
     problem: &Problem,
@@ -121,13 +124,16 @@ fn is_closed(
     requires within { IsOpen problem.now parent.now state.now }
     requires open { state.now.is_shut ≡ false }
     requires decision { IsDecision (length problem.now.columns) decision }
-    requires room { state.now.work.decided < 256 }
-    ensures { IfOk result (λ closed. closed ≡ true → (cutoff : _) → Stands problem.now parent.now cutoff state.now.work → OfAllInQuestion problem.now parent.now state.now.work (λ x. ¬ (Meets x decision))) }
+    requires room { state.now.work.decided < MOST_BOUNDS }
+    ensures { IfOk result (λ closed. closed ≡ true → (cutoff : _)
+        → Stands problem.now parent.now cutoff state.now.work
+        → OfAllInQuestion problem.now parent.now state.now.work (λ x. ¬ (Meets x decision))) }
 {
     let Some(side) = side_of(problem, parent, state, decision)? else {
         return Ok(true);
     };
     let Side { desc, mut state } = side;
+    bound_by(problem, &desc, &mut state, y, d);
     propagate(alloc, problem, &desc, &mut state)?;
     bound_by(problem, &desc, &mut state, y, d);
     Ok(is_shut_empty(&state))
@@ -146,7 +152,7 @@ pub fn close_side(
     requires { IsOpen problem.now parent.now state.old }
     ensures { IfOk result (λ closed. Moves problem.now parent.now state.old state.new) }
 {
-    if state.is_shut || MOST_DECIDED <= state.work.decided || !has_opposite(problem, decision) {
+    if state.is_shut || MOST_BOUNDS <= state.work.decided || !has_opposite(problem, decision) {
         return Ok(false);
     }
     if !is_closed(alloc, problem, parent, state, decision, y, d)? {

@@ -1,5 +1,6 @@
 // The state of the work on a node, and the moves that it makes.
-ghost use Rattle.std.specs.Prelude.{◌≡◌, ◌+◌, ◌≤ℤ◌, ◌<ℤ◌, List, length, IfSome, IsSomeAnd, IfOk, OnOk, true, false};
+ghost use Rattle.std.specs.Prelude.{◌≡◌, ◌+◌, ◌≤ℤ◌, ◌<ℤ◌, List, length, IfSome, IsSomeAnd, IfOk};
+ghost use Rattle.std.specs.Prelude.{OnOk, true, false};
 ghost use Rattle.bl_problem.specs.Points.{InBox, value_of};
 ghost use Rattle.bl_problem.specs.Decisions.{MeetsAll};
 ghost use Rattle.bl_bound.specs.Descriptions.{IsLeft};
@@ -19,7 +20,8 @@ use bl_mods::Items;
 use bl_problem::{Cut, Decision, Problem};
 use std::alloc::{AllocError, Global};
 
-// What the work has come to, how many cuts it has made, and whether it has shown that no point is in question.
+// What the work has come to, how many cuts it has made, and whether it has shown that no point
+// is in question.
 #[derive(Drop)]
 pub struct State {
     pub work: Working,
@@ -86,7 +88,8 @@ fn are_multipliers(problem: &Problem, work: &Working, y: &[i64]) -> bool
 fn raise_to(problem: &Problem, parent: &Desc<Cut>, state: &mut State, bound: i128)
     requires within { IsOpen problem.now parent.now state.old }
     requires open { state.old.is_shut ≡ false }
-    requires below { (x : List _) → IsLeft problem.now state.old.work.desc x → bound ≤ℤ value_of problem.now x }
+    requires below { (x : List _) → IsLeft problem.now state.old.work.desc x
+        → bound ≤ℤ value_of problem.now x }
     ensures { Moves problem.now parent.now state.old state.new }
 {
     raise(&mut state.work, raised(problem, bound));
@@ -111,7 +114,8 @@ pub fn narrow(problem: &Problem, parent: &Desc<Cut>, state: &mut State, decision
     requires within { IsOpen problem.now parent.now state.old }
     requires open { state.old.is_shut ≡ false }
     requires decisions { AreDecisions (length problem.now.columns) decisions.now }
-    requires met { (cutoff : _) → Stands problem.now parent.now cutoff state.old.work → OfAllInQuestion problem.now parent.now state.old.work (λ x. MeetsAll x decisions.now) }
+    requires met { (cutoff : _) → Stands problem.now parent.now cutoff state.old.work
+        → OfAllInQuestion problem.now parent.now state.old.work (λ x. MeetsAll x decisions.now) }
     ensures { Moves problem.now parent.now state.old state.new }
 {
     if let Pass::Shut = decide(problem, &mut state.work, decisions) {
@@ -123,7 +127,9 @@ pub fn narrow(problem: &Problem, parent: &Desc<Cut>, state: &mut State, decision
 fn raise_by(problem: &Problem, parent: &Desc<Cut>, state: &mut State, reduced: &ReducedCosts)
     requires within { IsOpen problem.now parent.now state.old }
     requires open { state.old.is_shut ≡ false }
-    requires below { IfSome (bound_by reduced.now) (λ b. (x : List _) → IsLeft problem.now state.old.work.desc x → b ≤ℤ value_of problem.now x) }
+    requires below { IfSome (bound_by reduced.now)
+        (λ b. (x : List _) → IsLeft problem.now state.old.work.desc x
+        → b ≤ℤ value_of problem.now x) }
     ensures { Moves problem.now parent.now state.old state.new }
 {
     if let Some(bound) = reduced.bound() {
@@ -131,7 +137,8 @@ fn raise_by(problem: &Problem, parent: &Desc<Cut>, state: &mut State, reduced: &
     }
 }
 
-// The reduced costs of multipliers over a common denominator fix columns, or their bound shuts the node, where there is a cutoff.
+// The reduced costs of multipliers over a common denominator fix columns, or their bound shuts
+// the node, where there is a cutoff.
 pub fn fix_by(
     alloc: Global,
     problem: &Problem,
@@ -150,7 +157,7 @@ pub fn fix_by(
         return Ok(());
     };
     let cutoff = lowered(problem, best);
-    let reduced = ReducedCosts::new(problem, &state.work.desc, y, d);
+    let reduced = ReducedCosts::new(alloc, problem, &state.work.desc, y, d)?;
     if !is_below(&reduced, cutoff) {
         raise_by(problem, parent, state, &reduced);
         return Ok(());
@@ -200,7 +207,8 @@ fn is_inside(lows: &[i64], highs: &[i64], point: &[i64]) -> bool
     true
 }
 
-// A point, wherever it comes from, becomes the found one, if it is feasible, lies in the node and is better.
+// A point, wherever it comes from, becomes the found one, if it is feasible, lies in the node
+// and is better.
 pub fn offer(problem: &Problem, parent: &Desc<Cut>, state: &mut State, point: Items<i64>)
     requires within { IsOpen problem.now parent.now state.old }
     requires node { IsNode problem.now parent.now }

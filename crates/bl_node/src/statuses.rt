@@ -60,7 +60,8 @@ fn count_unlike(old: &[Status], new: &[Status]) -> usize
     count
 }
 
-// Where too many statuses differ from the parent's, those of columns and rows become the parent's again.
+// Where too many statuses differ from the parent's, those of columns and rows become the
+// parent's again.
 pub fn settle(problem: &Problem, parent: &Desc<Cut>, work: &mut Working) -> Result<(), AllocError>
     requires node { IsNode problem.now parent.now }
     requires narrows { Narrows problem.now parent.now work.old }
@@ -76,8 +77,8 @@ pub fn settle(problem: &Problem, parent: &Desc<Cut>, work: &mut Working) -> Resu
         work.desc.row_status.as_slice(),
     );
     if columns > MOST_OTHERS || rows > MOST_OTHERS - columns {
-        let columns = parent.column_status.duplicate_all()?;
-        let rows = parent.row_status.duplicate_all()?;
+        let columns = parent.column_status.copy_all()?;
+        let rows = parent.row_status.copy_all()?;
         work.desc.column_status = columns;
         work.desc.row_status = rows;
     }

@@ -1,5 +1,7 @@
 // The steps of the work: each keeps what is known of the points in question.
-ghost use Rattle.std.specs.Prelude.{◌≡◌, ◌≢◌, ℕ, ℤ, ◌+◌, ◌<◌, ◌≤◌, ◌^◌, ◌≤ℤ◌, ◌<ℤ◌, List, [], ◌∷◌, length, All, IfOk, IfSome, IsSomeAnd, OnOk, IsTrue, true, false};
+ghost use Rattle.std.specs.Prelude.{◌≡◌, ◌≢◌, ℕ, ℤ, ◌+◌, ◌<◌, ◌≤◌, ◌^◌, ◌≤ℤ◌, ◌<ℤ◌, List, []};
+ghost use Rattle.std.specs.Prelude.{◌∷◌, length, All, IfOk, IfSome, IsSomeAnd, OnOk, IsTrue};
+ghost use Rattle.std.specs.Prelude.{true, false};
 ghost use Rattle.std.specs.Int.{int_max};
 ghost use Rattle.bl_problem.specs.Sums.{IsWithin};
 ghost use Rattle.bl_problem.specs.Program.{Program};
@@ -12,9 +14,12 @@ ghost use Rattle.bl_bound.specs.Descriptions.{Describes, IsLeft};
 ghost use Rattle.bl_prop.specs.Limits.{IsDecision, AreDecisions};
 ghost use Rattle.bl_num.specs.Exact.{at};
 ghost use Rattle.bl_prop.specs.Answers.{tightened_of};
+ghost use Rattle.bl_journal.specs.declared.limits.TheConstants.{MOST_BOUNDS, MOST_CUTS};
 ghost use Rattle.bl_node.specs.declared.working.Pass.TheVariants.{Shut};
 ghost use Rattle.bl_node.specs.Boxes.{Shrinks, BoxMeets, decisions_in, SaysEmpty, HasStatusesOf};
-ghost use Rattle.bl_node.specs.Standing.{box_of, OfAllInQuestion, Stands, Narrows, TakesDecisions, Knows, Leaves, IsNewTo, IsNode, IsAboveUnits, AddsCut, is_reached};
+ghost use Rattle.bl_node.specs.Standing.{box_of, OfAllInQuestion, Stands, Narrows};
+ghost use Rattle.bl_node.specs.Standing.{TakesDecisions, Knows, Leaves, IsNewTo, IsNode};
+ghost use Rattle.bl_node.specs.Standing.{IsAboveUnits, AddsCut, is_reached};
 
 use crate::working::{Pass, Working};
 use bl_bound::greatest_unit_bound;
@@ -49,7 +54,7 @@ pub fn take_decision(work: &mut Working, decision: Decision)
 fn take_decisions(work: &mut Working, decisions: &[Decision])
     requires decisions { AreDecisions (length work.old.desc.lows) decisions.now }
     requires highs { length work.old.desc.highs ≡ length work.old.desc.lows }
-    requires room { work.old.decided ≤ 256 }
+    requires room { work.old.decided ≤ MOST_BOUNDS }
     ensures { TakesDecisions work.old decisions.now work.new }
 {
     for decision in decisions {
@@ -71,17 +76,22 @@ pub fn has_point(lows: &[i64], highs: &[i64]) -> bool
     true
 }
 
-// Decisions that each point in question meets narrow the box, as long as no more than 256 bounds are decided.
+// Decisions that each point in question meets narrow the box, as long as no more than
+// `MOST_BOUNDS` bounds are decided.
 pub fn decide(problem: &Problem, work: &mut Working, decisions: &[Decision]) -> Pass
     requires describes { Describes problem.now work.old.desc }
     requires decisions { AreDecisions (length work.old.desc.lows) decisions.now }
-    requires decided { work.old.decided ≤ 256 }
-    ensures knows { (f : AnyDesc AnyCut) (cutoff : _) → Stands problem.now f cutoff work.old → OfAllInQuestion problem.now f work.old (λ x. MeetsAll x decisions.now) → Knows problem.now f cutoff result work.new }
-    ensures leaves { (f : AnyDesc AnyCut) → Narrows problem.now f work.old → Leaves problem.now f result work.new }
+    requires decided { work.old.decided ≤ MOST_BOUNDS }
+    ensures knows { (f : AnyDesc AnyCut) (cutoff : _) → Stands problem.now f cutoff work.old
+        → OfAllInQuestion problem.now f work.old (λ x. MeetsAll x decisions.now)
+        → Knows problem.now f cutoff result work.new }
+    ensures leaves { (f : AnyDesc AnyCut) → Narrows problem.now f work.old
+        → Leaves problem.now f result work.new }
     ensures shrinks { Shrinks (box_of work.old.desc) (box_of work.new.desc) }
     ensures statuses { HasStatusesOf work.old.desc work.new.desc }
     ensures low { work.new.low ≡ work.old.low }
-    ensures met { work.old.decided + length decisions.now ≤ 256 → All (BoxMeets (box_of work.new.desc)) decisions.now }
+    ensures met { work.old.decided + length decisions.now ≤ MOST_BOUNDS
+        → All (BoxMeets (box_of work.new.desc)) decisions.now }
 {
     if 256 < work.decided + decisions.len() {
         return Pass::Same;
@@ -97,14 +107,19 @@ pub fn decide(problem: &Problem, work: &mut Working, decisions: &[Decision]) -> 
 // One pass of tightening.
 pub fn pass(alloc: Global, problem: &Problem, work: &mut Working) -> Result<Pass, AllocError>
     requires describes { Describes problem.now work.old.desc }
-    requires decided { work.old.decided ≤ 256 }
-    ensures knows { IfOk result (λ pass. (f : AnyDesc AnyCut) (cutoff : _) → Stands problem.now f cutoff work.old → Knows problem.now f cutoff pass work.new) }
-    ensures leaves { IfOk result (λ pass. (f : AnyDesc AnyCut) → Narrows problem.now f work.old → Leaves problem.now f pass work.new) }
+    requires decided { work.old.decided ≤ MOST_BOUNDS }
+    ensures knows { IfOk result (λ pass. (f : AnyDesc AnyCut) (cutoff : _)
+        → Stands problem.now f cutoff work.old → Knows problem.now f cutoff pass work.new) }
+    ensures leaves { IfOk result (λ pass. (f : AnyDesc AnyCut) → Narrows problem.now f work.old
+        → Leaves problem.now f pass work.new) }
     ensures shrinks { IfOk result (λ pass. Shrinks (box_of work.old.desc) (box_of work.new.desc)) }
     ensures statuses { IfOk result (λ pass. HasStatusesOf work.old.desc work.new.desc) }
     ensures low { IfOk result (λ pass. work.new.low ≡ work.old.low) }
-    ensures empty { IfOk result (λ pass. SaysEmpty (tightened_of problem.now work.old.desc) → pass ≡ Shut) }
-    ensures met { IfOk result (λ pass. work.old.decided ≡ 0 → All (BoxMeets (box_of work.new.desc)) (decisions_in (tightened_of problem.now work.old.desc))) }
+    ensures empty { IfOk result (λ pass. SaysEmpty (tightened_of problem.now work.old.desc) → pass
+        ≡ Shut) }
+    ensures met { IfOk result (λ pass. work.old.decided ≡ 0
+        → All (BoxMeets (box_of work.new.desc))
+        (decisions_in (tightened_of problem.now work.old.desc))) }
 {
     match tighten(alloc, problem, &work.desc)? {
         Tightened::Empty { row: _ } => Ok(Pass::Shut),
@@ -117,8 +132,10 @@ pub fn pass(alloc: Global, problem: &Problem, work: &mut Working) -> Result<Pass
 pub fn raise(work: &mut Working, bound: i128)
     ensures low { work.new.low ≡ int_max work.old.low bound }
     ensures same { work.new.desc ≡ work.old.desc }
-    ensures stands { (p : Program) (f : AnyDesc AnyCut) (cutoff : _) → Stands p f cutoff work.old → OfAllInQuestion p f work.old (λ x. bound ≤ℤ value_of p x) → Stands p f cutoff work.new }
-    ensures narrows { (p : Program) (f : AnyDesc AnyCut) → Narrows p f work.old → Narrows p f work.new }
+    ensures stands { (p : Program) (f : AnyDesc AnyCut) (cutoff : _) → Stands p f cutoff work.old
+        → OfAllInQuestion p f work.old (λ x. bound ≤ℤ value_of p x) → Stands p f cutoff work.new }
+    ensures narrows { (p : Program) (f : AnyDesc AnyCut) → Narrows p f work.old
+        → Narrows p f work.new }
 {
     work.low = work.low.max(bound);
 }
@@ -139,8 +156,10 @@ pub fn accept(problem: &Problem, work: &mut Working, point: Items<i64>)
     requires feasible { IsFeasible problem.now point }
     requires width { length point ≡ length problem.now.columns }
     requires near { All (IsWithin (10 ^ 9)) point }
-    ensures stands { (f : AnyDesc AnyCut) (cutoff : _) → InBox f.lows f.highs point → Stands problem.now f cutoff work.old → Stands problem.now f cutoff work.new }
-    ensures narrows { (f : AnyDesc AnyCut) → Narrows problem.now f work.old → Narrows problem.now f work.new }
+    ensures stands { (f : AnyDesc AnyCut) (cutoff : _) → InBox f.lows f.highs point
+        → Stands problem.now f cutoff work.old → Stands problem.now f cutoff work.new }
+    ensures narrows { (f : AnyDesc AnyCut) → Narrows problem.now f work.old
+        → Narrows problem.now f work.new }
     ensures reached { IsSomeAnd work.new.best (λ c. c ≤ℤ value_of problem.now point) }
     ensures same { work.new.desc ≡ work.old.desc }
     ensures low { work.new.low ≡ work.old.low }
@@ -154,10 +173,12 @@ pub fn accept(problem: &Problem, work: &mut Working, point: Items<i64>)
 
 // A cut of a new name that holds for every feasible point comes behind the others.
 pub fn add_cut(alloc: Global, work: &mut Working, cut: Cut) -> Result<(), AllocError>
-    requires few { length work.old.desc.cuts < 200 }
+    requires few { length work.old.desc.cuts < MOST_CUTS }
     ensures adds { OnOk result (AddsCut work.old cut work.new) }
-    ensures stands { OnOk result ((p : Program) (f : AnyDesc AnyCut) (cutoff : _) → IsValidCut p cut → Stands p f cutoff work.old → Stands p f cutoff work.new) }
-    ensures narrows { OnOk result ((p : Program) (f : AnyDesc AnyCut) → SuitsProblem p cut → IsNewTo f work.old cut → Narrows p f work.old → Narrows p f work.new) }
+    ensures stands { OnOk result ((p : Program) (f : AnyDesc AnyCut) (cutoff : _)
+        → IsValidCut p cut → Stands p f cutoff work.old → Stands p f cutoff work.new) }
+    ensures narrows { OnOk result ((p : Program) (f : AnyDesc AnyCut) → SuitsProblem p cut
+        → IsNewTo f work.old cut → Narrows p f work.old → Narrows p f work.new) }
 {
     work.desc.cuts.push(Shared::new(alloc, cut)?)?;
     work.desc.cut_status.push(Status::Basic)?;
@@ -172,7 +193,9 @@ pub fn tighten_all(
     work: &mut Working,
 ) -> Result<Pass, AllocError>
     requires { Narrows problem.now parent.now work.old }
-    ensures knows { IfOk result (λ pass. (cutoff : _) → Stands problem.now parent.now cutoff work.old → Knows problem.now parent.now cutoff pass work.new) }
+    ensures knows { IfOk result (λ pass. (cutoff : _)
+        → Stands problem.now parent.now cutoff work.old → Knows problem.now parent.now cutoff pass
+        work.new) }
     ensures leaves { IfOk result (λ pass. Leaves problem.now parent.now pass work.new) }
     ensures shrinks { IfOk result (λ pass. Shrinks (box_of work.old.desc) (box_of work.new.desc)) }
     ensures statuses { IfOk result (λ pass. HasStatusesOf work.old.desc work.new.desc) }
@@ -189,7 +212,8 @@ pub fn tighten_all(
 
 // Whether the low has reached the cutoff, so that no point is in question.
 pub fn is_cut_off(work: &Working) -> bool
-    ensures none { IsTrue result → (p : Program) (f : AnyDesc AnyCut) (cutoff : _) → Stands p f cutoff work.now → OfAllInQuestion p f work.now (λ x. ⊥) }
+    ensures none { IsTrue result → (p : Program) (f : AnyDesc AnyCut) (cutoff : _)
+        → Stands p f cutoff work.now → OfAllInQuestion p f work.now (λ x. ⊥) }
     ensures exact { result ≡ is_reached work.now.low work.now.best }
 {
     match work.best {
@@ -205,7 +229,8 @@ pub fn start(
     cutoff: Option<i128>,
 ) -> Result<Working, AllocError>
     requires node { IsNode problem.now parent.now }
-    requires point { (j : ℕ) → j < length parent.now.lows → at parent.now.lows j ≤ℤ at parent.now.highs j }
+    requires point { (j : ℕ) → j < length parent.now.lows
+        → at parent.now.lows j ≤ℤ at parent.now.highs j }
     ensures stands { IfOk result (λ work. Stands problem.now parent.now cutoff work) }
     ensures narrows { IfOk result (λ work. Narrows problem.now parent.now work) }
     ensures same { IfOk result (λ work. work.desc ≡ parent.now) }

@@ -6,8 +6,9 @@ use bl_mods::Items;
 use bl_problem::Cut;
 use std::alloc::AllocError;
 
-// The description so far; the best point found in the node, and the least of its value and the node's cutoff; a number
-// that no better point of the node is below; and how many bounds were decided.
+// The description so far; the best point found in the node, and the least of its value and the
+// node's cutoff; a number that no better point of the node is below; and how many bounds were
+// decided.
 #[derive(Drop)]
 pub struct Working {
     pub desc: Desc<Cut>,
@@ -23,7 +24,7 @@ impl Working {
         ensures { IfOk result (λ copy. copy ≡ self.now) }
     {
         let found = match &self.found {
-            Some(point) => Some(point.duplicate_all()?),
+            Some(point) => Some(point.copy_all()?),
             None => None,
         };
         Ok(Working {

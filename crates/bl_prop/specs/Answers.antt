@@ -14,7 +14,8 @@ use Rattle.bl_prop.specs.Limits.{AreDecisions}
 
 -- the pass over all rows and cuts, from the description's bounds
 abbrev pub pass_of : Program → Desc Cut → Pass
-pass_of p desc = walked (length (lines_of p.rows desc.cuts)) (lines_of p.rows desc.cuts) (record { lows = desc.lows; highs = desc.highs; decisions = []; stuck = None })
+pass_of p desc = walked (length (lines_of p.rows desc.cuts)) (lines_of p.rows desc.cuts)
+    (record { lows = desc.lows; highs = desc.highs; decisions = []; stuck = None })
 
 -- the line that no point meets, else the decisions, where there are some
 abbrev pub answer_by : Option ℕ → List Decision → Tightened

@@ -1,5 +1,7 @@
 -- One pass of bound tightening over the rows and then the cuts.
-use Rattle.std.specs.Prelude.{ℕ, zero, suc, ◌≡◌, ◌≤◌, ◌^◌, Bool, true, false, List, [], ◌∷◌, ◌++◌, length, ℤ, pos, negsuc, ◌+ℤ◌, ◌-ℤ◌, ◌*ℤ◌, neg_ℤ, Option, Some, None, All, fold, int_lt, nat_le, if◌then◌else◌, slice_set}
+use Rattle.std.specs.Prelude.{ℕ, zero, suc, ◌≡◌, ◌≤◌, ◌^◌, Bool, true, false, List, [], ◌∷◌, ◌++◌}
+use Rattle.std.specs.Prelude.{length, ℤ, pos, negsuc, ◌+ℤ◌, ◌-ℤ◌, ◌*ℤ◌, neg_ℤ, Option, Some, None}
+use Rattle.std.specs.Prelude.{All, fold, int_lt, nat_le, if◌then◌else◌, slice_set}
 use Rattle.std.specs.Int.{int_min}
 use Rattle.bl_num.specs.Exact.{at, floor_of}
 use Rattle.bl_problem.specs.Sums.{total, IsWithin}
@@ -16,7 +18,8 @@ turned true z = neg_ℤ z
 
 -- the least that the term can be within the bounds
 abbrev pub least_part : Bool → List ℤ → List ℤ → Term → ℤ
-least_part negate lows highs t = int_min (turned negate t.coefficient *ℤ at lows t.column) (turned negate t.coefficient *ℤ at highs t.column)
+least_part negate lows highs t = int_min (turned negate t.coefficient *ℤ at lows t.column)
+    (turned negate t.coefficient *ℤ at highs t.column)
 
 abbrev pub least_of : Bool → List Term → List ℤ → List ℤ → ℤ
 least_of negate terms lows highs = total (least_part negate lows highs) terms
@@ -25,14 +28,27 @@ least_of negate terms lows highs = total (least_part negate lows highs) terms
 abbrev pub lowered_high : ℕ → ℤ → Pass → Pass
 lowered_high j v pass =
     if int_lt v (at pass.highs j)
-    then record { lows = pass.lows; highs = slice_set pass.highs j v; decisions = pass.decisions ++ record { column = j; side = AtMost; value = v } ∷ []; stuck = pass.stuck }
+    then record {
+      lows = pass.lows;
+      highs = slice_set pass.highs j v;
+      decisions =
+          pass.decisions ++ record { column = j; side = AtMost; value = v } ∷ [];
+      stuck = pass.stuck;
+    }
     else pass
 
 -- v becomes the low of column j where it is above it, and that is a decision
 abbrev pub raised_low : ℕ → ℤ → Pass → Pass
 raised_low j v pass =
     if int_lt (at pass.lows j) v
-    then record { lows = slice_set pass.lows j v; highs = pass.highs; decisions = pass.decisions ++ record { column = j; side = AtLeast; value = v } ∷ []; stuck = pass.stuck }
+    then record {
+      lows = slice_set pass.lows j v;
+      highs = pass.highs;
+      decisions =
+          pass.decisions ++ record { column = j; side = AtLeast; value = v } ∷ [];
+      stuck =
+          pass.stuck;
+    }
     else pass
 
 -- what coefficient a of column j decides, where the slack is s
@@ -46,7 +62,8 @@ abbrev pub is_full : Pass → Bool
 is_full pass = nat_le 256 (length pass.decisions)
 
 abbrev pub cut_term : Bool → ℤ → Pass → Term → Pass
-cut_term negate s pass t = if is_full pass then pass else cut_by s t.column (turned negate t.coefficient) pass
+cut_term negate s pass t = if is_full pass then pass
+    else cut_by s t.column (turned negate t.coefficient) pass
 
 abbrev pub cut_terms : Bool → ℤ → List Term → Pass → Pass
 cut_terms negate s terms pass = fold (cut_term negate s) pass terms
@@ -70,11 +87,13 @@ by_slack i negate terms s pass =
 abbrev pub end_step : ℕ → Bool → List Term → Option ℤ → Pass → Pass
 end_step i negate terms None pass = pass
 end_step i negate terms (Some end) pass =
-    if is_over pass then pass else by_slack i negate terms (turned negate end -ℤ least_of negate terms pass.lows pass.highs) pass
+    if is_over pass then pass else by_slack i negate terms
+    (turned negate end -ℤ least_of negate terms pass.lows pass.highs) pass
 
 -- both ends of line i, high first
 abbrev pub line_step : ℕ → Line → Pass → Pass
-line_step i line pass = end_step i true line.terms line.low (end_step i false line.terms line.high pass)
+line_step i line pass = end_step i true line.terms line.low
+    (end_step i false line.terms line.high pass)
 
 -- what the pass has come to after the first n lines
 unfoldable pub walked : ℕ → List Line → Pass → Pass

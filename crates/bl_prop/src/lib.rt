@@ -1,4 +1,5 @@
-//! Propagation: one pass over the rows and the cuts that tightens the bounds of a description.
+//! Mathematics: propagation, one pass over the rows and the cuts that tightens the bounds of a
+//! description.
 #![tactic(auto)]
 
 mod pass;

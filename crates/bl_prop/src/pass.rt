@@ -18,12 +18,15 @@ pub struct Pass {
 }
 
 impl Pass {
-    ghost use Rattle.std.specs.Prelude.{◌≡◌, ◌≤◌, ◌<◌, ◌+◌, ◌^◌, length, pos, ◌≤ℤ◌, ◌+ℤ◌, ◌-ℤ◌, OnOk, IsTrue};
+    ghost use Rattle.std.specs.Prelude.{◌≡◌, ◌≤◌, ◌<◌, ◌+◌, ◌^◌, length, pos, ◌≤ℤ◌, ◌+ℤ◌, ◌-ℤ◌};
+    ghost use Rattle.std.specs.Prelude.{OnOk, IsTrue};
     ghost use Rattle.bl_num.specs.Exact.{at};
     ghost use Rattle.bl_problem.specs.Sums.{IsWithin};
     ghost use Rattle.bl_problem.specs.Rows.{IsTerm, AreTerms};
     ghost use Rattle.bl_bound.specs.Lines.{line_of, lines_of};
-    ghost use Rattle.bl_prop.specs.Passes.{turned, least_of, lowered_high, raised_low, cut_by, cut_term, cut_terms, is_full, is_over, by_slack, end_step, line_step, walked, IsNear};
+    ghost use Rattle.bl_prop.specs.Passes.{turned, least_of, lowered_high, raised_low, cut_by};
+    ghost use Rattle.bl_prop.specs.Passes.{cut_term, cut_terms, is_full, is_over, by_slack};
+    ghost use Rattle.bl_prop.specs.Passes.{end_step, line_step, walked, IsNear};
     ghost use Rattle.bl_prop.specs.Limits.{IsSlack, IsEnd, IsLine, AreLines};
 
     fn low(&self, column: u32) -> i64
@@ -45,7 +48,8 @@ impl Pass {
         requires near { IsNear self.now }
         requires terms { AreTerms (length self.now.lows) terms.now }
         requires end { IsWithin (10 ^ 30) end }
-        ensures exact { result ≡ turned negate end -ℤ least_of negate terms.now self.now.lows self.now.highs }
+        ensures exact { result ≡ turned negate end -ℤ least_of negate terms.now self.now.lows
+            self.now.highs }
         ensures high { result ≤ℤ pos (10 ^ 31) }
     {
         let end = if negate { -end } else { end };
@@ -88,7 +92,8 @@ impl Pass {
         Ok(())
     }
 
-    // Whether the coefficient's size times the column's width is within the slack: it decides nothing then.
+    // Whether the coefficient's size times the column's width is within the slack: it decides
+    // nothing then.
     fn is_loose(&self, slack: i128, column: u32, coefficient: i64) -> bool
         requires near { IsNear self.now }
         requires column { column < length self.now.lows }
@@ -219,7 +224,8 @@ impl Pass {
         requires near { IsNear self.old }
         requires few_lines { length rows.now + length cuts.now ≤ 1200 }
         requires lines { AreLines (length self.old.lows) (lines_of rows.now cuts.now) }
-        ensures { OnOk result (self.new ≡ walked (length (lines_of rows.now cuts.now)) (lines_of rows.now cuts.now) self.old) }
+        ensures { OnOk result (self.new ≡ walked (length (lines_of rows.now cuts.now))
+            (lines_of rows.now cuts.now) self.old) }
     {
         for place in 0..rows.len() + cuts.len() {
             self.line_step(place as u32, line(rows, cuts, place))?;

@@ -24,7 +24,8 @@ fn least_part(term: Term, negate: bool, low: i64, high: i64) -> i128
     requires coefficient { IsWithin (10 ^ 15) term.coefficient }
     requires low { IsWithin (10 ^ 9) low }
     requires high { IsWithin (10 ^ 9) high }
-    ensures value { result ≡ int_min (turned negate term.coefficient *ℤ low) (turned negate term.coefficient *ℤ high) }
+    ensures value { result ≡ int_min (turned negate term.coefficient *ℤ low)
+        (turned negate term.coefficient *ℤ high) }
     ensures small { IsWithin (10 ^ 24) result }
 {
     let coefficient = turned(term.coefficient, negate);

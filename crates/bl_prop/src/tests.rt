@@ -73,7 +73,8 @@ fn problem(
     low: Option<i128>,
     high: Option<i128>,
 ) -> Result<Problem, AllocError>
-    requires terms { AreTerms 2 (record { column = 0; coefficient = a } ∷ record { column = 1; coefficient = b } ∷ []) }
+    requires terms { AreTerms 2 (record { column = 0; coefficient = a }
+        ∷ record { column = 1; coefficient = b } ∷ []) }
     requires ends { AreEnds low high }
     ensures { IfOk result (λ p. length p.columns ≡ 2) }
 {
@@ -103,7 +104,8 @@ fn cut(alloc: Global, right: u8) -> Result<Shared<Cut>, AllocError>
 
 fn cuts(alloc: Global, rights: &[u8]) -> Result<Items<Shared<Cut>>, AllocError>
     ensures count { IfOk result (λ cuts. length cuts ≡ length rights.now) }
-    ensures suit { IfOk result (λ cuts. (p : Program) → length p.columns ≡ 2 → All (SuitsProblem p) cuts) }
+    ensures suit { IfOk result (λ cuts. (p : Program) → length p.columns ≡ 2
+        → All (SuitsProblem p) cuts) }
 {
     let mut cuts = Items::new(alloc);
     for right in rights {
@@ -117,7 +119,8 @@ fn description(alloc: Global, highs: [i64; 2], rights: &[u8]) -> Result<Desc<Cut
     ensures lows { IfOk result (λ d. d.lows ≡ pos 0 ∷ pos 0 ∷ []) }
     ensures highs { IfOk result (λ d. d.highs ≡ highs) }
     ensures few { IfOk result (λ d. length d.cuts ≤ 200) }
-    ensures suit { IfOk result (λ d. (p : Program) → length p.columns ≡ 2 → All (SuitsProblem p) d.cuts) }
+    ensures suit { IfOk result (λ d. (p : Program) → length p.columns ≡ 2
+        → All (SuitsProblem p) d.cuts) }
 {
     Ok(Desc {
         lows: Items::from_vec(vec![in alloc; 0, 0]?),
@@ -146,8 +149,8 @@ fn decisions_told(alloc: Global, decisions: &[Decision]) -> Result<String, Alloc
     Ok(text)
 }
 
-// What a pass answers: all decisions in order, or the line that no point meets. The row is a X + b Y
-// from `low` to `high`, the columns go from 0 to `highs`, and each of `rights` has its cut.
+// What a pass answers: all decisions in order, or the line that no point meets. The row is a X +
+// b Y from `low` to `high`, the columns go from 0 to `highs`, and each of `rights` has its cut.
 fn told(
     alloc: Global,
     a: i64,
@@ -157,7 +160,8 @@ fn told(
     highs: [i64; 2],
     rights: &[u8],
 ) -> Result<String, AllocError>
-    requires terms { AreTerms 2 (record { column = 0; coefficient = a } ∷ record { column = 1; coefficient = b } ∷ []) }
+    requires terms { AreTerms 2 (record { column = 0; coefficient = a }
+        ∷ record { column = 1; coefficient = b } ∷ []) }
     requires ends { AreEnds low high }
     requires highs { All (IsWithin (10 ^ 9)) highs }
     requires few { length rights.now ≤ 200 }

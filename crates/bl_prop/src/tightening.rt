@@ -20,9 +20,9 @@ pub enum Tightened {
     Same,
 }
 
-/// One pass over the rows and then the cuts, each end that is there, high first: each term bounds its
-/// column by what the least sum of the line's terms leaves. It stops after 256 decisions. `AllocError`
-/// where there is no memory.
+/// One pass over the rows and then the cuts, each end that is there, high first: each term
+/// bounds its column by what the least sum of the line's terms leaves. It stops after 256
+/// decisions. `AllocError` where there is no memory.
 pub fn tighten(alloc: Global, problem: &Problem, desc: &Desc<Cut>) -> Result<Tightened, AllocError>
     requires suits { Describes problem.now desc.now }
     ensures exact { IfOk result (λ t. t ≡ tightened_of problem.now desc.now) }
@@ -30,8 +30,8 @@ pub fn tighten(alloc: Global, problem: &Problem, desc: &Desc<Cut>) -> Result<Tig
     ensures keeps { IfOk result (λ t. (x : List ℤ) → IsLeft problem.now desc.now x → Keeps x t) }
 {
     let mut pass = Pass {
-        lows: desc.lows.duplicate_all()?,
-        highs: desc.highs.duplicate_all()?,
+        lows: desc.lows.copy_all()?,
+        highs: desc.highs.copy_all()?,
         decisions: Items::new(alloc),
         stuck: None,
     };

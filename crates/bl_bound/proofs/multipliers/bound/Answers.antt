@@ -11,7 +11,8 @@ returns-clause-below c = λ x f.
     let g = c.ranges.d in
     let l = c.in_ok-sum.ensures in
     let t = simp to_z-of_z at (l.below x f) in
-    let k = ceil_le (value_of c.args.problem.now x) c.in_ok-sum.sum c.args.d c.requires.counted (let e = *ℤ_comm c.args.d (value_of c.args.problem.now x) in omega (arith, ints, e, t)) in
+    let k = ceil_le (value_of c.args.problem.now x) c.in_ok-sum.sum c.args.d c.requires.counted
+    (let e = *ℤ_comm c.args.d (value_of c.args.problem.now x) in omega (arith, ints, e, t)) in
     let s : FitsSigned w128 c.in_ok-sum.sum = search rules in
     let h : FitsSigned w128 c.args.d = omega (arith, ints) in
     let r = simp to_z-of_z at c.ceil_div.ensures in

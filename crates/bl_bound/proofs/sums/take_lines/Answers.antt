@@ -1,4 +1,5 @@
-use Rattle.std.proofs.Common.{◌<◌, ℤ, ◌*ℤ◌, neg_ℤ, List, length, Option, Some, refl, sym, ◌∙◌, ap, arith, FitsSigned, rules}
+use Rattle.std.proofs.Common.{◌<◌, ℤ, ◌*ℤ◌, neg_ℤ, List, length, Option, Some, refl, sym, ◌∙◌, ap}
+use Rattle.std.proofs.Common.{arith, FitsSigned, rules}
 use Rattle.std.specs.Int.{w64}
 use Rattle.std.proofs.lemmas.Int.{to_z-of_z}
 use Rattle.bl_num.specs.Exact.{at}
@@ -20,12 +21,15 @@ take_line-requires-clause-terms c =
     let w = c.loop-i.invariant.width in
     let n = length-lines_of c.args.rows.now c.args.cuts.now in
     let e = ap (λ (l : Line). l.terms) c.line.ensures in
-    rw (w, e) (c.requires.terms c.loop-i.i _ (omega (arith, n, c.requires.multipliers, c.loop-i-test.true)))
+    rw (w, e) (c.requires.terms c.loop-i.i _
+    (omega (arith, n, c.requires.multipliers, c.loop-i-test.true)))
 
 pub take_line-requires-clause-settled : goal.take_line-requires-clause-settled
 take_line-requires-clause-settled c = λ j l.
     let m : j < length c.args.sums.now = omega (arith, c.loop-i.invariant.width) in
-    rw (c.loop-i.invariant.sums j m) (checked_sum-settled (sum_at c.args.sums.now j) (taken (lines_of c.args.rows.now c.args.cuts.now) c.args.y.now j) c.loop-i.i (c.requires.settled j m))
+    rw (c.loop-i.invariant.sums j m) (checked_sum-settled (sum_at c.args.sums.now j)
+    (taken (lines_of c.args.rows.now c.args.cuts.now) c.args.y.now j) c.loop-i.i
+    (c.requires.settled j m))
 
 pub loop-i-preserved : goal.loop-i-preserved
 loop-i-preserved c = record {
@@ -37,7 +41,10 @@ loop-i-preserved c = record {
       let start = sum_at c.args.sums.now j in
       let part = taken (lines_of c.args.rows.now c.args.cuts.now) c.args.y.now j in
       let e = ap (λ (l : Line). l.terms) c.line.ensures in
-      s ∙ ap (λ (o : Option ℤ). checked_add o (Some (neg_ℤ (at c.args.y.now c.loop-i.i *ℤ coefficient_of c.line.result.terms.now j)))) (c.loop-i.invariant.sums j m)
-      ∙ ap (λ (ts : List Term). checked_add (checked_sum start c.loop-i.i part) (Some (neg_ℤ (at c.args.y.now c.loop-i.i *ℤ coefficient_of ts j)))) e
+      s ∙ ap (λ (o : Option ℤ). checked_add o
+      (Some (neg_ℤ (at c.args.y.now c.loop-i.i *ℤ coefficient_of c.line.result.terms.now j))))
+      (c.loop-i.invariant.sums j m)
+      ∙ ap (λ (ts : List Term). checked_add (checked_sum start c.loop-i.i part)
+      (Some (neg_ℤ (at c.args.y.now c.loop-i.i *ℤ coefficient_of ts j)))) e
       ∙ sym (checked_sum-more start c.loop-i.i part);
 }

@@ -13,12 +13,23 @@ returns-in-None c =
 
 pub returns-in-Some : goal.returns-in-Some
 returns-in-Some c =
-    let w : IsFirstWidest c.args.desc.now.lows c.args.desc.now.highs (length c.args.desc.now.lows) c.in-Some.column = rw (c.as_slice-lows.ensures, c.as_slice-highs.ensures) at c.in-Some.ensures in
+    let w : IsFirstWidest c.args.desc.now.lows c.args.desc.now.highs (length c.args.desc.now.lows)
+    c.in-Some.column = rw (c.as_slice-lows.ensures, c.as_slice-highs.ensures) at
+    c.in-Some.ensures in
     let f : FitsSigned w64 (at c.as_slice-lows.result.now c.in-Some.column) = search rules in
     let g : FitsSigned w64 (at c.as_slice-highs.result.now c.in-Some.column) = search rules in
-    let m : IsMiddle (at c.args.desc.now.lows c.in-Some.column) (at c.args.desc.now.highs c.in-Some.column) c.middle.result = rw (c.as_slice-lows.ensures, c.as_slice-highs.ensures) at (simp to_z-of_z at c.middle.ensures) in
+    let m : IsMiddle (at c.args.desc.now.lows c.in-Some.column)
+    (at c.args.desc.now.highs c.in-Some.column) c.middle.result =
+    rw (c.as_slice-lows.ensures, c.as_slice-highs.ensures) at
+    (simp to_z-of_z at c.middle.ensures) in
     let e = to_z-of_z w64 c.middle.result (record { sfits = c.middle.type_inv }) in
     record {
       half = rw e (record { widest = w; middle = m });
-      splits = rw e (record { column = w.inside; low = omega (arith, ints, m.not_above, m.not_below, w.wide); high = omega (arith, ints, m.not_above, m.not_below, w.wide) });
+      splits = rw e (record {
+        column = w.inside;
+        low =
+            omega (arith, ints, m.not_above, m.not_below, w.wide);
+        high =
+            omega (arith, ints, m.not_above, m.not_below, w.wide);
+      });
     }

@@ -4,4 +4,5 @@ use Rattle.bl_cover.specs.Greedy.{HasNoGreedyCover}
 use Rattle.bl_cover.proofs.search.find_cover.Given as goal
 
 abbrev pub invariant-loop-row : goal.invariant-loop-row
-invariant-loop-row l = (k : ℕ) → k < l.row → HasNoGreedyCover l.problem.columns l.point (row_at l.problem.rows k)
+invariant-loop-row l = (k : ℕ) → k < l.row → HasNoGreedyCover l.problem.columns l.point
+    (row_at l.problem.rows k)

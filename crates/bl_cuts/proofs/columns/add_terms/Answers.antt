@@ -1,4 +1,5 @@
-use Rattle.std.proofs.Common.{ℤ, pos, List, get_or, Option, Some, sym, ◌∙◌, ap, FitsSigned, rules, slice_set}
+use Rattle.std.proofs.Common.{ℤ, pos, List, get_or, Option, Some, sym, ◌∙◌, ap, FitsSigned, rules}
+use Rattle.std.proofs.Common.{slice_set}
 use Rattle.std.specs.Int.{w64, w128}
 use Rattle.std.proofs.lemmas.Int.{to_z-of_z}
 use Rattle.std.proofs.lemmas.List.Sums.{fold_more}
@@ -19,6 +20,8 @@ loop-term-preserved c =
     let p = simp to_z-of_z at c.product.ensures.value in
     let h : FitsSigned w128 c.product.result = record { sfits = c.product.type_inv } in
     let s = simp to_z-of_z at c.plus.ensures in
-    let m = fold_more (given_term c.args.w) c.args.sums.now c.args.terms.now c.loop-term.term-index d c.loop-term-test.true in
+    let m = fold_more (given_term c.args.w) c.args.sums.now c.args.terms.now
+    c.loop-term.term-index d c.loop-term-test.true in
     let written = s ∙ ap (λ (v : ℤ). checked_add (sum_at c.loop-term.sums t.column) (Some v)) p in
-    rw z (m ∙ ap (λ (sums : List (Option ℤ)). given_term c.args.w sums t) inv ∙ ap (λ (o : Option ℤ). slice_set c.loop-term.sums t.column o) (sym written))
+    rw z (m ∙ ap (λ (sums : List (Option ℤ)). given_term c.args.w sums t) inv
+    ∙ ap (λ (o : Option ℤ). slice_set c.loop-term.sums t.column o) (sym written))

@@ -14,10 +14,14 @@ loop-j-init c = checked_sum-start _ _
 
 pub loop-j-preserved : goal.loop-j-preserved
 loop-j-preserved c =
-    let e = at-map (λ (d : Column). d.low) c.args.columns.now c.loop-j.j c.index-columns-j.result c.loop-j-test.true ∙ ap (λ (d : Column). d.low) (sym c.index-columns-j.is) in
+    let e = at-map (λ (d : Column). d.low) c.args.columns.now c.loop-j.j c.index-columns-j.result
+    c.loop-j-test.true ∙ ap (λ (d : Column). d.low) (sym c.index-columns-j.is) in
     let f : FitsSigned w64 c.index-columns-j.result.low = search rules in
     let z = to_z-of_z w64 c.args.q c.ranges.q in
     let inv = rw z at c.loop-j.invariant in
     let r = rw z at c.floored.ensures in
     let q = simp to_z-of_z at (rw (← c.index-columns-j.is) at c.add_product-sum.ensures) in
-    rw z (plus_step _ _ c.loop-j.j _ _ _ inv (ap (λ (v : ℤ). checked_mul (floored (sum_at c.args.sums.now c.loop-j.j) c.args.q) (Some v)) e ∙ ap (λ (o : Option ℤ). checked_mul o (Some c.index-columns-j.result.low)) (sym r)) q)
+    rw z (plus_step _ _ c.loop-j.j _ _ _ inv
+    (ap (λ (v : ℤ). checked_mul (floored (sum_at c.args.sums.now c.loop-j.j) c.args.q)
+    (Some v)) e ∙ ap (λ (o : Option ℤ). checked_mul o (Some c.index-columns-j.result.low))
+    (sym r)) q)

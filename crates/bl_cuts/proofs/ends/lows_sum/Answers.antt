@@ -13,7 +13,9 @@ loop-j-init c = checked_sum-start _ _
 
 pub loop-j-preserved : goal.loop-j-preserved
 loop-j-preserved c =
-    let e = at-map (λ (d : Column). d.low) c.args.columns.now c.loop-j.j c.index-columns-j.result c.loop-j-test.true ∙ ap (λ (d : Column). d.low) (sym c.index-columns-j.is) in
+    let e = at-map (λ (d : Column). d.low) c.args.columns.now c.loop-j.j c.index-columns-j.result
+    c.loop-j-test.true ∙ ap (λ (d : Column). d.low) (sym c.index-columns-j.is) in
     let f : FitsSigned w64 c.index-columns-j.result.low = search rules in
     let q = simp to_z-of_z at (rw (← c.index-columns-j.is) at c.add_product-sum.ensures) in
-    plus_step _ _ c.loop-j.j _ _ _ c.loop-j.invariant (ap (λ (v : ℤ). checked_mul (sum_at c.args.sums.now c.loop-j.j) (Some v)) e) q
+    plus_step _ _ c.loop-j.j _ _ _ c.loop-j.invariant
+    (ap (λ (v : ℤ). checked_mul (sum_at c.args.sums.now c.loop-j.j) (Some v)) e) q

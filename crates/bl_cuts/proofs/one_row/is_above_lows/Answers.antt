@@ -14,8 +14,11 @@ loop-term-preserved c =
     let e : FitsSigned w64 (at c.args.split.now.lows t.column) = search rules in
     let f : FitsSigned w64 (at c.args.split.now.wholes t.column) = search rules in
     let w = rw (c.as_slice-wholes.ensures, c.as_slice-lows.ensures) at c.if-wholes-term.false in
-    All-more (λ (t : Term). at c.args.split.now.lows t.column ≤ℤ at c.args.split.now.wholes t.column) c.args.terms.now c.loop-term.term-index d c.loop-term-test.true c.loop-term.invariant
+    All-more (λ (t : Term). at c.args.split.now.lows t.column ≤ℤ at c.args.split.now.wholes
+    t.column) c.args.terms.now c.loop-term.term-index d c.loop-term-test.true
+    c.loop-term.invariant
     (omega (arith, ints, e, f, w))
 
 pub returns : goal.returns
-returns c = λ t. rw (take_all c.loop-term.term-index c.args.terms.now c.loop-term-test.false) at c.loop-term.invariant
+returns c = λ t. rw (take_all c.loop-term.term-index c.args.terms.now c.loop-term-test.false) at
+    c.loop-term.invariant

@@ -1,4 +1,5 @@
-use Rattle.std.proofs.Common.{◌≡◌, ◌*◌, ◌^◌, ℤ, pos, ◌*ℤ◌, ◌≤ℤ◌, arith, sym, ap, FitsSigned, Option, subst, rules}
+use Rattle.std.proofs.Common.{◌≡◌, ◌*◌, ◌^◌, ℤ, pos, ◌*ℤ◌, ◌≤ℤ◌, arith, sym, ap, FitsSigned}
+use Rattle.std.proofs.Common.{Option, subst, rules}
 use Rattle.std.specs.Int.{w64, w128}
 use Rattle.std.proofs.lemmas.Int.{ints, to_z-of_z}
 use Rattle.std.proofs.Math.IntN.{*ℤ_comm}
@@ -15,7 +16,8 @@ returns-in-Some c = λ t.
     let z = to_z-of_z w64 c.args.q c.ranges.q in
     let y = to_z-of_z w128 c.args.over c.ranges.over in
     let fq : FitsSigned w128 c.args.q = omega (arith, ints, c.ranges.q) in
-    let b : c.floor_div.result ≡ floor_of c.args.over c.args.q = rw (z, to_z-of_z w128 c.args.q fq, y) at c.floor_div.ensures in
+    let b : c.floor_div.result ≡ floor_of c.args.over c.args.q =
+    rw (z, to_z-of_z w128 c.args.q fq, y) at c.floor_div.ensures in
     let w = floor_within (3 * 10 ^ 30) c.args.over c.args.q h c.requires.over in
     let ff : FitsSigned w128 c.floor_div.result = omega (arith, ints, w, b) in
     let low = floor-next c.args.over c.args.q h in
@@ -25,8 +27,17 @@ returns-in-Some c = λ t.
     let e = *ℤ_comm c.args.q (floor_of c.args.over c.args.q) in
     let m = ap (λ (v : ℤ). c.args.q *ℤ v) b in
     let near = c.requires.over in
-    let fp : FitsSigned w128 (c.args.q *ℤ c.floor_div.result) = omega (arith, ints, m, e, low, high, d, u, near, c.ranges.q) in
+    let fp : FitsSigned w128 (c.args.q *ℤ c.floor_div.result) =
+    omega (arith, ints, m, e, low, high, d, u, near, c.ranges.q) in
     let fr : FitsSigned w128 c.in-Some.reach = search rules in
-    let s = rw (z, to_z-of_z w128 c.args.q fq, to_z-of_z w128 c.floor_div.result ff, to_z-of_z w128 (c.args.q *ℤ c.floor_div.result) fp, to_z-of_z w128 c.in-Some.reach fr) at t in
-    let r : c.in-Some.reach ≤ℤ (c.args.q *ℤ floor_of c.args.over c.args.q) = omega (arith, ints, s, m) in
+    let s = rw (
+      z,
+      to_z-of_z w128 c.args.q fq,
+      to_z-of_z w128 c.floor_div.result ff,
+      to_z-of_z
+          w128 (c.args.q *ℤ c.floor_div.result) fp,
+      to_z-of_z w128 c.in-Some.reach fr,
+    ) at t in
+    let r : c.in-Some.reach ≤ℤ (c.args.q *ℤ floor_of c.args.over c.args.q) =
+    omega (arith, ints, s, m) in
     subst (λ (o : Option ℤ). IsOutOfReach c.args.over c.args.q o) (sym c.in-Some.is) r

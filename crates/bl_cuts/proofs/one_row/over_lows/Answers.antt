@@ -14,8 +14,18 @@ returns-clause-exact c =
     let f : FitsSigned w128 c.args.weight = omega (arith, ints, unit) in
     let k : FitsSigned w128 (c.args.weight *ℤ c.args.end) = omega (arith, ints, p) in
     let r : FitsSigned w128 c.quotients_sum.result = omega (arith, ints, near) in
-    let g : FitsSigned w128 (c.args.weight *ℤ c.args.end -ℤ c.quotients_sum.result) = omega (arith, ints, p, near) in
-    rw (z, to_z-of_z w128 c.args.weight f, to_z-of_z w128 c.args.end c.ranges.end, to_z-of_z w128 (c.args.weight *ℤ c.args.end) k, to_z-of_z w128 c.quotients_sum.result r, to_z-of_z w128 (c.args.weight *ℤ c.args.end -ℤ c.quotients_sum.result) g)
+    let g : FitsSigned w128 (c.args.weight *ℤ c.args.end -ℤ c.quotients_sum.result) =
+    omega (arith, ints, p, near) in
+    rw (
+      z,
+      to_z-of_z w128 c.args.weight f,
+      to_z-of_z w128 c.args.end c.ranges.end,
+      to_z-of_z w128
+          (c.args.weight *ℤ c.args.end) k,
+      to_z-of_z w128 c.quotients_sum.result r,
+      to_z-of_z w128
+          (c.args.weight *ℤ c.args.end -ℤ c.quotients_sum.result) g,
+    )
     (ap (λ (s : ℤ). c.args.weight *ℤ c.args.end -ℤ s) e)
 
 pub returns-clause-near : goal.returns-clause-near
@@ -27,8 +37,18 @@ returns-clause-near c =
     let f : FitsSigned w128 c.args.weight = omega (arith, ints, unit) in
     let k : FitsSigned w128 (c.args.weight *ℤ c.args.end) = omega (arith, ints, p) in
     let r : FitsSigned w128 c.quotients_sum.result = omega (arith, ints, near) in
-    let g : FitsSigned w128 (c.args.weight *ℤ c.args.end -ℤ c.quotients_sum.result) = omega (arith, ints, p, near) in
-    rw (z, to_z-of_z w128 c.args.weight f, to_z-of_z w128 c.args.end c.ranges.end, to_z-of_z w128 (c.args.weight *ℤ c.args.end) k, to_z-of_z w128 c.quotients_sum.result r, to_z-of_z w128 (c.args.weight *ℤ c.args.end -ℤ c.quotients_sum.result) g)
+    let g : FitsSigned w128 (c.args.weight *ℤ c.args.end -ℤ c.quotients_sum.result) =
+    omega (arith, ints, p, near) in
+    rw (
+      z,
+      to_z-of_z w128 c.args.weight f,
+      to_z-of_z w128 c.args.end c.ranges.end,
+      to_z-of_z w128
+          (c.args.weight *ℤ c.args.end) k,
+      to_z-of_z w128 c.quotients_sum.result r,
+      to_z-of_z w128
+          (c.args.weight *ℤ c.args.end -ℤ c.quotients_sum.result) g,
+    )
     (omega (arith, ints, p, near))
 
 pub overflow_sub-result : goal.overflow_sub-result
@@ -40,5 +60,13 @@ overflow_sub-result c =
     let f : FitsSigned w128 c.args.weight = omega (arith, ints, unit) in
     let k : FitsSigned w128 (c.args.weight *ℤ c.args.end) = omega (arith, ints, p) in
     let r : FitsSigned w128 c.quotients_sum.result = omega (arith, ints, near) in
-    let g : FitsSigned w128 (c.args.weight *ℤ c.args.end -ℤ c.quotients_sum.result) = omega (arith, ints, p, near) in
-    rw (z, to_z-of_z w128 c.args.weight f, to_z-of_z w128 c.args.end c.ranges.end, to_z-of_z w128 (c.args.weight *ℤ c.args.end) k, to_z-of_z w128 c.quotients_sum.result r) g
+    let g : FitsSigned w128 (c.args.weight *ℤ c.args.end -ℤ c.quotients_sum.result) =
+    omega (arith, ints, p, near) in
+    rw (
+      z,
+      to_z-of_z w128 c.args.weight f,
+      to_z-of_z w128 c.args.end c.ranges.end,
+      to_z-of_z w128
+          (c.args.weight *ℤ c.args.end) k,
+      to_z-of_z w128 c.quotients_sum.result r,
+    ) g

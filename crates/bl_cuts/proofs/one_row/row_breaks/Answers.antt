@@ -16,20 +16,25 @@ pub record Sums (over q parts above floor : ℤ) : Type 0 where
   pub floor_near : IsWithin (3 * 10 ^ 30) floor
   pub above_near : IsWithin (2 * 10 ^ 30) above
 
-sums : (c : goal.After-ceil_div) → Sums c.args.over c.args.q c.quotients_sum-parts.result c.ceil_div.result c.floor_div.result
+sums : (c : goal.After-ceil_div) → Sums c.args.over c.args.q c.quotients_sum-parts.result
+    c.ceil_div.result c.floor_div.result
 sums c =
     let p = c.quotients_sum-parts.ensures.near in
     let h = c.requires.counted in
     let z = to_z-of_z w64 c.args.q c.ranges.q in
     let g : FitsSigned w128 c.quotients_sum-parts.result = omega (arith, ints, p) in
-    let a : c.ceil_div.result ≡ ceil_of c.quotients_sum-parts.result one = rw (to_z-of_z w128 c.quotients_sum-parts.result g) at c.ceil_div.ensures in
+    let a : c.ceil_div.result ≡ ceil_of c.quotients_sum-parts.result one =
+    rw (to_z-of_z w128 c.quotients_sum-parts.result g) at c.ceil_div.ensures in
     let f : FitsSigned w128 c.args.q = omega (arith, ints, c.ranges.q) in
-    let b : c.floor_div.result ≡ floor_of c.args.over c.args.q = rw (z, to_z-of_z w128 c.args.q f, to_z-of_z w128 c.args.over c.ranges.over) at c.floor_div.ensures in
+    let b : c.floor_div.result ≡ floor_of c.args.over c.args.q =
+    rw (z, to_z-of_z w128 c.args.q f, to_z-of_z w128 c.args.over c.ranges.over) at
+    c.floor_div.ensures in
     record {
       is_floor = b;
       is_ceiling = a;
       floor_near = rw b (floor_within (3 * 10 ^ 30) c.args.over c.args.q h c.requires.over);
-      above_near = rw a (ceil_within (2 * 10 ^ 30) c.quotients_sum-parts.result one (omega (arith, ints)) p);
+      above_near =
+          rw a (ceil_within (2 * 10 ^ 30) c.quotients_sum-parts.result one (omega (arith, ints)) p);
     }
 
 pub overflow_add-result : goal.overflow_add-result
@@ -51,8 +56,19 @@ returns c = λ x h.
     let fn = s.floor_near in
     let an = s.above_near in
     let r : ℤ = c.floor_div.result +ℤ c.quotients_sum.result in
-    let e = row_breaks-split c.args.split.now x c.args.terms.now c.args.weight c.args.over c.args.q (c.floor_div.result +ℤ c.quotients_sum.result) c.quotients_sum-wholes.result c.quotients_sum-parts.result h
-    (ap (λ (z : ℤ). z +ℤ c.quotients_sum.result) s.is_floor ∙ ap (λ (z : ℤ). floor_of c.args.over c.args.q +ℤ z) lows) wholes parts in
-    let left : to_z w128 (of_z w128 (to_z w128 (of_z w128 c.floor_div.result) +ℤ to_z w128 (of_z w128 c.quotients_sum.result))) ≡ c.floor_div.result +ℤ c.quotients_sum.result = omega (arith, ints, ln, fn) in
-    let right : to_z w128 (of_z w128 (to_z w128 (of_z w128 c.quotients_sum-wholes.result) +ℤ to_z w128 (of_z w128 c.ceil_div.result))) ≡ c.quotients_sum-wholes.result +ℤ c.ceil_div.result = omega (arith, ints, wn, an) in
-    rw (left, right) (ap (λ (z : ℤ). int_lt (c.floor_div.result +ℤ c.quotients_sum.result) (c.quotients_sum-wholes.result +ℤ z)) s.is_ceiling ∙ e)
+    let e = row_breaks-split c.args.split.now x c.args.terms.now c.args.weight c.args.over
+    c.args.q (c.floor_div.result +ℤ c.quotients_sum.result) c.quotients_sum-wholes.result
+    c.quotients_sum-parts.result h
+    (ap (λ (z : ℤ). z +ℤ c.quotients_sum.result) s.is_floor
+    ∙ ap (λ (z : ℤ). floor_of c.args.over c.args.q +ℤ z) lows) wholes parts in
+    let left : to_z w128
+    (of_z w128 (to_z w128 (of_z w128 c.floor_div.result) +ℤ to_z w128
+    (of_z w128 c.quotients_sum.result))) ≡ c.floor_div.result +ℤ c.quotients_sum.result =
+    omega (arith, ints, ln, fn) in
+    let right : to_z w128
+    (of_z w128 (to_z w128 (of_z w128 c.quotients_sum-wholes.result) +ℤ to_z w128
+    (of_z w128 c.ceil_div.result))) ≡ c.quotients_sum-wholes.result +ℤ c.ceil_div.result =
+    omega (arith, ints, wn, an) in
+    rw (left, right)
+    (ap (λ (z : ℤ). int_lt (c.floor_div.result +ℤ c.quotients_sum.result)
+    (c.quotients_sum-wholes.result +ℤ z)) s.is_ceiling ∙ e)

@@ -9,6 +9,7 @@ use Rattle.bl_cuts.proofs.one_row.split_point.Given as goal
 abbrev pub invariant-loop-j : goal.invariant-loop-j
 invariant-loop-j l = record {
   lows : lows_of (take l.j l.columns) ≡ l.split.lows;
-  exact : (k : ℕ) → k < l.j → at (raws_of l.point) k ≡ at l.split.wholes k *ℤ one +ℤ at l.split.parts k;
+  exact : (k : ℕ) → k < l.j → at (raws_of l.point) k
+      ≡ at l.split.wholes k *ℤ one +ℤ at l.split.parts k;
   near : IsNear l.j l.split;
 }

@@ -14,10 +14,16 @@ returns-in-Some-clause-exact c =
     let z = to_z-of_z w64 c.args.weight c.ranges.weight in
     let near = c.over_lows-over.ensures.near in
     let f : FitsSigned w128 c.over_lows-over.result = omega (arith, ints, near) in
-    let e : first ≡ first_size (λ (k : Candidate). row_breaks c.args.split.now.lows x c.args.terms.now c.args.weight c.over_lows-over.result k.q) c.args.row c.args.weight c.args.terms.now =
+    let e : first ≡ first_size (λ (k : Candidate). row_breaks c.args.split.now.lows x
+    c.args.terms.now c.args.weight c.over_lows-over.result k.q) c.args.row c.args.weight
+    c.args.terms.now =
     rw (z, to_z-of_z w128 c.over_lows-over.result f) at (g x h) in
     let g : FitsSigned w128 c.in-Some.end = search rules in
-    let o : c.over_lows-over.result ≡ over_lows c.args.split.now.lows c.args.terms.now c.args.weight c.in-Some.end = rw (z, to_z-of_z w128 c.in-Some.end g) at c.over_lows-over.ensures.exact in
-    e ∙ ap (λ (v : ℤ). first_size (λ (k : Candidate). row_breaks c.args.split.now.lows x c.args.terms.now c.args.weight v k.q) c.args.row c.args.weight c.args.terms.now) o
-    ∙ ap (λ (y : Option ℤ). first_by_over c.args.split.now.lows x c.args.row c.args.weight y c.args.terms.now) (sym c.in-Some.is))
+    let o : c.over_lows-over.result ≡ over_lows c.args.split.now.lows c.args.terms.now
+    c.args.weight c.in-Some.end =
+    rw (z, to_z-of_z w128 c.in-Some.end g) at c.over_lows-over.ensures.exact in
+    e ∙ ap (λ (v : ℤ). first_size (λ (k : Candidate). row_breaks c.args.split.now.lows x
+    c.args.terms.now c.args.weight v k.q) c.args.row c.args.weight c.args.terms.now) o
+    ∙ ap (λ (y : Option ℤ). first_by_over c.args.split.now.lows x c.args.row c.args.weight y
+    c.args.terms.now) (sym c.in-Some.is))
     c.first_size.ensures.exact

@@ -8,6 +8,9 @@ abbrev pub invariant-loop-term : goal.invariant-loop-term
 invariant-loop-term l = record {
   first :
       (x : List ℤ) → IsSplit l.split x →
-      first_size (λ (c : Candidate). row_breaks l.split.lows x l.terms l.weight l.over c.q) l.row l.weight l.terms ≡ first_size (λ (c : Candidate). row_breaks l.split.lows x l.terms l.weight l.over c.q) l.row l.weight (drop l.term-index l.terms);
-  tried : (x : List ℤ) → IsSplit l.split x → AreUnbroken l.split.lows x l.terms l.weight l.over l.tried.items;
+      first_size (λ (c : Candidate). row_breaks l.split.lows x l.terms l.weight l.over c.q) l.row
+      l.weight l.terms ≡ first_size (λ (c : Candidate). row_breaks l.split.lows x l.terms
+      l.weight l.over c.q) l.row l.weight (drop l.term-index l.terms);
+  tried : (x : List ℤ) → IsSplit l.split x → AreUnbroken l.split.lows x l.terms l.weight l.over
+      l.tried.items;
 }

@@ -17,8 +17,11 @@ loop-j-preserved c =
     let f : FitsSigned w64 (at lows j) = search rules in
     let g : FitsSigned w64 (at highs j) = search rules in
     let k : FitsSigned w128 gap = search rules in
-    let q : c.decision-found.result ≡ decision_of gap j (sum_at costs j) (at lows j) (at highs j) = simp to_z-of_z at c.decision-found.ensures in
-    let i : c.loop-j.decisions ≡ decisions_below j gap (sum_at costs) lows highs = rw (to_z-of_z w128 gap k) at c.loop-j.invariant in
+    let q : c.decision-found.result ≡ decision_of gap j (sum_at costs j) (at lows j)
+    (at highs j) = simp to_z-of_z at c.decision-found.ensures in
+    let i : c.loop-j.decisions ≡ decisions_below j gap (sum_at costs) lows highs =
+    rw (to_z-of_z w128 gap k) at c.loop-j.invariant in
     rw (to_z-of_z w128 gap k, add-one j)
     (c.in_ok-append.ensures ∙ ap (λ (o : Option Decision). with_decision c.loop-j.decisions o) q
-    ∙ ap (λ (ds : List Decision). with_decision ds (decision_of gap j (sum_at costs j) (at lows j) (at highs j))) i)
+    ∙ ap (λ (ds : List Decision). with_decision ds
+    (decision_of gap j (sum_at costs j) (at lows j) (at highs j))) i)

@@ -21,5 +21,8 @@ returns c =
     let m = simp to_z-of_z at c.mul.ensures in
     let a = simp to_z-of_z at c.add.ensures in
     let e = simp to_z-of_z at c.add-2.ensures in
-    last-some c.args.problem.now c.args.grid c.args.cutoff c.in_ok-limit.limit c.in_ok-above.above c.in_ok-steps.steps c.in_ok-last.last c.add-2.result c.requires.counted c.requires.divides
-    (sym r ∙ c.in_ok-limit.was) (rw (← c.offset.ensures) (sym s ∙ c.in_ok-above.was)) (rw (← t) (sym m ∙ c.in_ok-steps.was)) (rw (← c.offset-2.ensures) (sym a ∙ c.in_ok-last.was)) e
+    last-some c.args.problem.now c.args.grid c.args.cutoff c.in_ok-limit.limit c.in_ok-above.above
+    c.in_ok-steps.steps c.in_ok-last.last c.add-2.result c.requires.counted c.requires.divides
+    (sym r ∙ c.in_ok-limit.was) (rw (← c.offset.ensures) (sym s ∙ c.in_ok-above.was))
+    (rw (← t) (sym m ∙ c.in_ok-steps.was))
+    (rw (← c.offset-2.ensures) (sym a ∙ c.in_ok-last.was)) e

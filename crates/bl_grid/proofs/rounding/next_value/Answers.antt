@@ -17,4 +17,7 @@ returns c =
     let t = simp to_z-of_z at c.ceil_div.ensures in
     let m = simp to_z-of_z at c.mul.ensures in
     let a = simp to_z-of_z at c.add.ensures in
-    next-some c.args.problem.now c.args.grid c.args.bound c.in_ok-above.above c.in_ok-steps.steps c.add.result c.requires.counted c.requires.divides (rw (← c.offset.ensures) (sym s ∙ c.in_ok-above.was)) (rw (← t) (sym m ∙ c.in_ok-steps.was)) (rw (← c.offset-2.ensures) a)
+    next-some c.args.problem.now c.args.grid c.args.bound c.in_ok-above.above c.in_ok-steps.steps
+    c.add.result c.requires.counted c.requires.divides
+    (rw (← c.offset.ensures) (sym s ∙ c.in_ok-above.was))
+    (rw (← t) (sym m ∙ c.in_ok-steps.was)) (rw (← c.offset-2.ensures) a)

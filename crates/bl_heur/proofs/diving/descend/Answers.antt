@@ -10,7 +10,8 @@ use Rattle.bl_heur.proofs.diving.descend.Goals as goal
 pub loop-init : goal.loop-init
 loop-init c = record {
   suits = c.requires.suits;
-  rest = λ m e. let z : m ≡ length c.args.problem.now.columns + 1 = omega (arith, e) in ap (λ (n : ℕ). dived n c.args.problem.now c.args.desc.now) z;
+  rest = λ m e. let z : m ≡ length c.args.problem.now.columns + 1 =
+      omega (arith, e) in ap (λ (n : ℕ). dived n c.args.problem.now c.args.desc.now) z;
 }
 
 pub returns-then-not-branch-clause-exact : goal.returns-then-not-branch-clause-exact
@@ -19,7 +20,8 @@ returns-then-not-branch-clause-exact c =
     let w = ap (λ (cs : List Column). length cs) c.columns.ensures.columns in
     let m : ℕ = n - c.loop.counter in
     let z : suc m + c.loop.counter ≡ n + 1 = omega (arith, w, c.loop-test.true) in
-    sym (c.loop.invariant.rest (suc m) z) ∙ turn-ended m c.args.problem.now c.loop.desc (rw c.if-not-branch.true at c.in_ok-propagate.ensures.exact)
+    sym (c.loop.invariant.rest (suc m) z) ∙ turn-ended m c.args.problem.now c.loop.desc
+    (rw c.if-not-branch.true at c.in_ok-propagate.ensures.exact)
 
 pub returns-in-None-clause-exact : goal.returns-in-None-clause-exact
 returns-in-None-clause-exact c =
@@ -28,8 +30,10 @@ returns-in-None-clause-exact c =
     let m : ℕ = n - c.loop.counter in
     let z : suc m + c.loop.counter ≡ n + 1 = omega (arith, w, c.loop-test.true) in
     let f = c.propagate.new.desc in
-    let e : propagated 20 c.args.problem.now c.loop.desc ≡ Some f = rw c.if-not-branch.false at c.in_ok-propagate.ensures.exact in
-    let k : None ≡ first_free (length f.lows) f.lows f.highs = rw (c.as_slice.ensures, c.as_slice-in-loop.ensures) at c.in-None.ensures in
+    let e : propagated 20 c.args.problem.now c.loop.desc ≡ Some f =
+    rw c.if-not-branch.false at c.in_ok-propagate.ensures.exact in
+    let k : None ≡ first_free (length f.lows) f.lows f.highs =
+    rw (c.as_slice.ensures, c.as_slice-in-loop.ensures) at c.in-None.ensures in
     sym (c.loop.invariant.rest (suc m) z) ∙ turn-last m c.args.problem.now c.loop.desc f e (sym k)
 
 pub returns-in-None-clause-width : goal.returns-in-None-clause-width
@@ -38,13 +42,15 @@ returns-in-None-clause-width c = c.in_ok-propagate.ensures.suits.lows ∙ sym c.
 pub take_low-requires-clause-low : goal.take_low-requires-clause-low
 take_low-requires-clause-low c =
     let f = c.propagate.new.desc in
-    let k : Some c.in-Some.column ≡ first_free (length f.lows) f.lows f.highs = rw (c.as_slice.ensures, c.as_slice-in-loop.ensures) at c.in-Some.ensures in
+    let k : Some c.in-Some.column ≡ first_free (length f.lows) f.lows f.highs =
+    rw (c.as_slice.ensures, c.as_slice-in-loop.ensures) at c.in-Some.ensures in
     first_free-inside (length f.lows) c.in-Some.column f.lows f.highs (sym k)
 
 pub take_low-requires-clause-high : goal.take_low-requires-clause-high
 take_low-requires-clause-high c =
     let f = c.propagate.new.desc in
-    let k : Some c.in-Some.column ≡ first_free (length f.lows) f.lows f.highs = rw (c.as_slice.ensures, c.as_slice-in-loop.ensures) at c.in-Some.ensures in
+    let k : Some c.in-Some.column ≡ first_free (length f.lows) f.lows f.highs =
+    rw (c.as_slice.ensures, c.as_slice-in-loop.ensures) at c.in-Some.ensures in
     let l = first_free-inside (length f.lows) c.in-Some.column f.lows f.highs (sym k) in
     omega (arith, l, c.in_ok-propagate.ensures.suits.lows, c.in_ok-propagate.ensures.suits.highs)
 
@@ -53,10 +59,13 @@ loop-preserved c =
     let p = c.args.problem.now in
     let f = c.propagate.new.desc in
     let j = c.in-Some.column in
-    let e : propagated 20 p c.loop.desc ≡ Some f = rw c.if-not-branch.false at c.in_ok-propagate.ensures.exact in
-    let k : Some j ≡ first_free (length f.lows) f.lows f.highs = rw (c.as_slice.ensures, c.as_slice-in-loop.ensures) at c.in-Some.ensures in
+    let e : propagated 20 p c.loop.desc ≡ Some f =
+    rw c.if-not-branch.false at c.in_ok-propagate.ensures.exact in
+    let k : Some j ≡ first_free (length f.lows) f.lows f.highs =
+    rw (c.as_slice.ensures, c.as_slice-in-loop.ensures) at c.in-Some.ensures in
     record {
-      suits = rw c.take_low.ensures (at_low-describes p f j c.in_ok-propagate.ensures.suits (first_free-inside (length f.lows) j f.lows f.highs (sym k)));
+      suits = rw c.take_low.ensures (at_low-describes p f j c.in_ok-propagate.ensures.suits
+          (first_free-inside (length f.lows) j f.lows f.highs (sym k)));
       rest = λ m z.
           ap (λ (d : Desc Cut). dived m p d) c.take_low.ensures
           ∙ sym (turn-on m j p c.loop.desc f e (sym k))
@@ -66,7 +75,8 @@ loop-preserved c =
 pub returns-clause-exact : goal.returns-clause-exact
 returns-clause-exact c =
     let w = ap (λ (cs : List Column). length cs) c.columns.ensures.columns in
-    sym (c.loop.invariant.rest 0 (omega (arith, w, c.loop.auto.counter-end, c.loop-test.false))) ∙ no-turn c.args.problem.now c.loop.desc
+    sym (c.loop.invariant.rest 0 (omega (arith, w, c.loop.auto.counter-end, c.loop-test.false)))
+    ∙ no-turn c.args.problem.now c.loop.desc
 
 pub returns-clause-width : goal.returns-clause-width
 returns-clause-width c = c.loop.invariant.suits.lows ∙ sym c.requires.suits.lows

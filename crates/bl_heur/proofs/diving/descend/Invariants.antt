@@ -6,5 +6,6 @@ use Rattle.bl_heur.proofs.diving.descend.Given as goal
 abbrev pub invariant-loop : goal.invariant-loop
 invariant-loop l = record {
   suits : Describes l.problem l.desc;
-  rest : (m : ℕ) → m + l.counter ≡ length l.problem.columns + 1 → dived m l.problem l.desc ≡ dive_of l.problem l.initial.desc;
+  rest : (m : ℕ) → m + l.counter ≡ length l.problem.columns + 1 → dived m l.problem l.desc
+      ≡ dive_of l.problem l.initial.desc;
 }

@@ -12,4 +12,5 @@ returns-then-value-le-FARTHEST c = λ p h.
     let above = rw same at c.if-value.true in
     let below = rw same at c.if-value-le-FARTHEST.true in
     let within : IsWithin (10 ^ 9) c.args.value = grind (arith, ints, above, below) in
-    rw (c.narrow.ensures, same) (pinned-describes p c.args.desc.now c.args.column c.args.value (omega (arith, c.if-column-width.false, c.len-width.ensures)) within h)
+    rw (c.narrow.ensures, same) (pinned-describes p c.args.desc.now c.args.column c.args.value
+    (omega (arith, c.if-column-width.false, c.len-width.ensures)) within h)

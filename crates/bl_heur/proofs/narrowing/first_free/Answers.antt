@@ -10,4 +10,5 @@ returns-then-lows-j c =
     let f : FitsSigned w64 (at c.args.lows.now c.loop-j.j) = search rules in
     let g : FitsSigned w64 (at c.args.highs.now c.loop-j.j) = search rules in
     let w : at c.args.lows.now c.loop-j.j <ℤ at c.args.highs.now c.loop-j.j = omega (arith, ints) in
-    sym (first_free-found (length c.args.lows.now) c.loop-j.j c.args.lows.now c.args.highs.now c.loop-j-test.true c.loop-j.invariant w)
+    sym (first_free-found (length c.args.lows.now) c.loop-j.j c.args.lows.now c.args.highs.now
+    c.loop-j-test.true c.loop-j.invariant w)

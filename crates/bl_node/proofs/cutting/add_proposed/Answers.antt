@@ -21,11 +21,22 @@ returns g c =
     let id : ItemId = record { seat = old.limits.seat; serial = old.limits.serial + old.made } in
     let made : IsMade p old.work.desc id cut = rw c.in-Some-2.is at c.in_ok-cut.ensures.made in
     let added = c.in_ok-add_cut.ensures in
-    let allows : Desc Cut → Try → Type 0 = g.S.Separate.allows c.args.separator.now c.args.problem.now in
+    let allows : Desc Cut → Try → Type 0 =
+    g.S.Separate.allows c.args.separator.now c.args.problem.now in
     let gives = rw c.in-Some-2.is at c.in_ok-cut.ensures.gives in
-    let tried : IsTried allows p f cut = record { work = old.work; narrows = c.requires.within c.requires.open; tried = c.in-Some.tried; allowed = rw c.in-Some.is at c.in_ok-tried.ensures.allowed; gives = subst (λ (k : ItemId). Gives p old.work.desc k c.in-Some.tried cut) (sym made.named) gives } in
+    let tried : IsTried allows p f cut =
     record {
-      within = λ e. added.narrows p f made.suits (new-name f old cut made.named c.requires.named) (c.requires.within c.requires.open);
+      work = old.work;
+      narrows = c.requires.within c.requires.open;
+      tried =
+          c.in-Some.tried;
+      allowed = rw c.in-Some.is at c.in_ok-tried.ensures.allowed;
+      gives =
+          subst (λ (k : ItemId). Gives p old.work.desc k c.in-Some.tried cut) (sym made.named) gives;
+    } in
+    record {
+      within = λ e. added.narrows p f made.suits (new-name f old cut made.named c.requires.named)
+          (c.requires.within c.requires.open);
       known = λ cutoff k. record {
         stands = added.stands p f cutoff (made.holds k.stands.cuts) k.stands;
         none = λ t. absurd (false≢true (sym c.requires.open ∙ t));
@@ -34,7 +45,8 @@ returns g c =
       low = rw added.adds.low (omega (arith, ints));
       limits = refl;
       cuts = record {
-        named = named-added f old w cut added.adds.cuts made.named (omega (arith, c.if-state.false));
+        named = named-added f old w cut added.adds.cuts made.named
+            (omega (arith, c.if-state.false));
         tried = tried-added allows p f old w cut added.adds.cuts made.named c.requires.named tried;
       };
     }

@@ -5,4 +5,5 @@ use Rattle.bl_fixed.specs.declared.Fixed.{Fixed}
 use Rattle.bl_node.proofs.improve.is_near.Given as goal
 
 abbrev pub invariant-loop-entry : goal.invariant-loop-entry
-invariant-loop-entry l = (k : ℕ) (d : Fixed) → k < l.entry-index → IsWithin (2 ^ 70) (slice_index_or l.fn.point k d).raw
+invariant-loop-entry l = (k : ℕ) (d : Fixed) → k < l.entry-index
+    → IsWithin (2 ^ 70) (slice_index_or l.fn.point k d).raw

@@ -18,11 +18,13 @@ feasible c = rw c.as_slice-else-not-is_inside.ensures at (c.is_feasible.ensures.
 
 pub accept-requires-clause-width : goal.accept-requires-clause-width
 accept-requires-clause-width c =
-    let w = box-width (lows_of c.args.problem.now.columns) (highs_of c.args.problem.now.columns) c.args.point (feasible c).box in
+    let w = box-width (lows_of c.args.problem.now.columns) (highs_of c.args.problem.now.columns)
+    c.args.point (feasible c).box in
     sym w.lows ∙ length-map c.args.problem.now.columns (λ (k : Column). k.low)
 
 pub accept-requires-clause-near : goal.accept-requires-clause-near
-accept-requires-clause-near c = box-near c.args.problem.now.columns c.args.point c.columns-columns.ensures.program.columns (feasible c).box
+accept-requires-clause-near c = box-near c.args.problem.now.columns c.args.point
+    c.columns-columns.ensures.program.columns (feasible c).box
 
 pub returns : goal.returns
 returns c =
@@ -30,12 +32,15 @@ returns c =
     let f = c.args.parent.now in
     let old = c.args.state.now in
     let w = c.accept.new.work in
-    let inside : InBox f.lows f.highs c.args.point = rw (c.as_slice.ensures, c.as_slice-else-state.ensures, c.as_slice-else-state-2.ensures) at (c.is_inside.ensures (search rules)) in
+    let inside : InBox f.lows f.highs c.args.point =
+    rw (c.as_slice.ensures, c.as_slice-else-state.ensures, c.as_slice-else-state-2.ensures) at
+    (c.is_inside.ensures (search rules)) in
     moves-then p f old (state_with old w old.is_shut) c.close.new.state
     (moves-on p f old w c.if-state.false
     (λ cutoff s. c.accept.ensures.stands f cutoff inside s)
     (c.accept.ensures.narrows f (c.requires.within c.if-state.false))
-    (subst (λ (d : Desc Cut). Shrinks (box_of old.work.desc) (box_of d)) (sym c.accept.ensures.same) (shrinks-same (box_of old.work.desc)))
+    (subst (λ (d : Desc Cut). Shrinks (box_of old.work.desc) (box_of d))
+    (sym c.accept.ensures.same) (shrinks-same (box_of old.work.desc)))
     (rw c.accept.ensures.low (omega (arith, ints)))
     (ap (λ (d : Desc Cut). d.cuts) c.accept.ensures.same))
     c.close.ensures

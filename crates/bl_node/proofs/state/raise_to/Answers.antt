@@ -22,9 +22,12 @@ returns c =
     let bound = to_z-of_z w128 c.args.bound given in
     moves-then p f old (state_with old w old.is_shut) c.close.new.state
     (moves-on p f old w c.requires.open
-    (λ cutoff s. c.raise.ensures.stands p f cutoff s (λ x q. rw same (c.raised.ensures.below x (rw bound (c.requires.below x (left p f cutoff old.work x s q))))))
+    (λ cutoff s. c.raise.ensures.stands p f cutoff s
+    (λ x q. rw same (c.raised.ensures.below x
+    (rw bound (c.requires.below x (left p f cutoff old.work x s q))))))
     (c.raise.ensures.narrows p f (c.requires.within c.requires.open))
-    (subst (λ (d : Desc Cut). Shrinks (box_of old.work.desc) (box_of d)) (sym c.raise.ensures.same) (shrinks-same (box_of old.work.desc)))
+    (subst (λ (d : Desc Cut). Shrinks (box_of old.work.desc) (box_of d))
+    (sym c.raise.ensures.same) (shrinks-same (box_of old.work.desc)))
     (risen old.work.low c.raised.result w.low (rw same at c.raise.ensures.low))
     (ap (λ (d : Desc Cut). d.cuts) c.raise.ensures.same))
     c.close.ensures

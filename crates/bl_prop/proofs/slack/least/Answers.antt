@@ -17,6 +17,8 @@ returns c =
     let f = simp to_z-of_z at c.floor_div.ensures in
     let z : pos 0 -ℤ c.args.coefficient ≡ neg_ℤ c.args.coefficient = omega (arith, ints) in
     let e = f ∙ ap (λ (q : ℤ). floor_of c.args.slack q) z in
-    let r = floor_range c.args.slack (neg_ℤ c.args.coefficient) (omega (arith, ints)) c.requires.slack.low in
-    let t : FitsSigned w128 (c.args.high -ℤ c.floor_div.result) = omega (arith, ints, e, r.0, r.1) in
+    let r = floor_range c.args.slack (neg_ℤ c.args.coefficient) (omega (arith, ints))
+    c.requires.slack.low in
+    let t : FitsSigned w128 (c.args.high -ℤ c.floor_div.result) =
+    omega (arith, ints, e, r.0, r.1) in
     simp to_z-of_z (record { value = omega (arith, ints, e); below = omega (arith, ints, e, r.0) })

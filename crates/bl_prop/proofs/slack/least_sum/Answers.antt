@@ -10,7 +10,9 @@ use Rattle.bl_prop.specs.Passes.{least_part}
 use Rattle.bl_prop.proofs.slack.least_sum.Goals as goal
 
 -- what this turn adds: it is exact, and small
-term : (c : goal.After-least_part-sum) → (c.least_part-sum.result ≡ least_part c.args.negate c.args.lows.now c.args.highs.now (get_or c.args.terms.now c.loop-term.term-index (record { column = 0; coefficient = pos 0 }))) × IsWithin (10 ^ 24) c.least_part-sum.result
+term : (c : goal.After-least_part-sum) → (c.least_part-sum.result ≡ least_part c.args.negate
+    c.args.lows.now c.args.highs.now (get_or c.args.terms.now c.loop-term.term-index
+    (record { column = 0; coefficient = pos 0 }))) × IsWithin (10 ^ 24) c.least_part-sum.result
 term c =
     let d : Term = record { column = 0; coefficient = pos 0 } in
     let t : Term = get_or c.args.terms.now c.loop-term.term-index d in
@@ -32,7 +34,9 @@ pub loop-term-preserved : goal.loop-term-preserved
 loop-term-preserved c =
     let p = term c in
     let n = length-rising (length c.args.lows.now) c.args.terms.now c.requires.terms in
-    let m = fold_more (λ (s : ℤ) (t : Term). s +ℤ least_part c.args.negate c.args.lows.now c.args.highs.now t) (pos 0) c.args.terms.now c.loop-term.term-index (record { column = 0; coefficient = pos 0 }) c.loop-term-test.true in
+    let m = fold_more (λ (s : ℤ) (t : Term). s +ℤ least_part c.args.negate c.args.lows.now
+    c.args.highs.now t) (pos 0) c.args.terms.now c.loop-term.term-index
+    (record { column = 0; coefficient = pos 0 }) c.loop-term-test.true in
     record {
       exact = omega (arith, ints, m, p.0);
       within = omega (arith, ints);
@@ -41,4 +45,11 @@ loop-term-preserved c =
 pub returns-clause-small : goal.returns-clause-small
 returns-clause-small c =
     let n = length-rising (length c.args.lows.now) c.args.terms.now c.requires.terms in
-    omega (arith, ints, n, c.loop-term.invariant.within, c.loop-term.auto.term-index-end, c.requires.few)
+    omega (
+      arith,
+      ints,
+      n,
+      c.loop-term.invariant.within,
+      c.loop-term.auto.term-index-end,
+      c.requires.few,
+    )

@@ -13,6 +13,7 @@ returns c =
     let v : FitsSigned w128 c.args.low = omega (arith, ints) in
     let d : FitsSigned w128 c.floor_div.result = record { sfits = c.floor_div.type_inv } in
     let f = simp to_z-of_z at c.floor_div.ensures in
-    let r = floor_range c.args.slack c.args.coefficient (omega (arith, ints)) c.requires.slack.low in
+    let r = floor_range c.args.slack c.args.coefficient (omega (arith, ints)) c.requires.slack.low
+    in
     let t : FitsSigned w128 (c.args.low +ℤ c.floor_div.result) = omega (arith, ints, f, r.0, r.1) in
     simp to_z-of_z (record { value = omega (arith, ints, f); above = omega (arith, ints, f, r.0) })

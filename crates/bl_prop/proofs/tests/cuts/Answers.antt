@@ -11,5 +11,6 @@ loop-right-preserved c =
     let i = c.loop-right.invariant in
     record {
       count = rw e (omega (arith, n, i.count));
-      suit = λ p w. rw e (All-push (SuitsProblem p) c.loop-right.cuts c.in_ok-cut.field-0 (i.suit p w) (c.in_ok-cut.ensures p w));
+      suit = λ p w. rw e (All-push (SuitsProblem p) c.loop-right.cuts c.in_ok-cut.field-0
+          (i.suit p w) (c.in_ok-cut.ensures p w));
     }

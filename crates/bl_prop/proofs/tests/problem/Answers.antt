@@ -11,8 +11,20 @@ new-requires c =
     let g = c.ranges.b in
     let r = simp to_z-of_z at c.in_ok-rows.ensures in
     let o = c.new-objective.ensures ∙ c.in_ok-vec.ensures.items in
-    let row : Row = record { name = 82 ∷ []; terms = record { column = 0; coefficient = c.args.a } ∷ record { column = 1; coefficient = c.args.b } ∷ []; low = c.args.low; high = c.args.high } in
-    let fits : IsRow 2 row = record { name = search rules; terms = c.requires.terms; ends = c.requires.ends } in
+    let row : Row = record {
+      name = 82 ∷ [];
+      terms = record { column = 0; coefficient = c.args.a }
+          ∷ record { column = 1; coefficient = c.args.b } ∷ [];
+      low = c.args.low;
+      high =
+          c.args.high;
+    } in
+    let fits : IsRow 2 row = record {
+      name = search rules;
+      terms = c.requires.terms;
+      ends =
+          c.requires.ends;
+    } in
     rw (c.in_ok-columns.ensures, r, o) (record {
       few_columns = omega arith;
       few_rows = omega arith;

@@ -13,7 +13,9 @@ tighten-requires c =
       suits = record {
         lows = rw (d.lows, n) refl;
         highs = rw (d.highs, n) (search rules);
-        near_lows = rw d.lows (All-cons (IsWithin (10 ^ 9)) (pos 0) (pos 0 ∷ []) z (All-cons (IsWithin (10 ^ 9)) (pos 0) [] z (All-nil (IsWithin (10 ^ 9)))));
+        near_lows =
+            rw d.lows (All-cons (IsWithin (10 ^ 9)) (pos 0) (pos 0 ∷ []) z
+            (All-cons (IsWithin (10 ^ 9)) (pos 0) [] z (All-nil (IsWithin (10 ^ 9)))));
         near_highs = rw d.highs c.requires.highs;
         few_cuts = d.few;
         cuts = d.suit c.in_ok-problem.problem n;

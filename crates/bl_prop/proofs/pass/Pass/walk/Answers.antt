@@ -12,20 +12,26 @@ loop-place-init c = sym (walked-start (lines_of c.args.rows.now c.args.cuts.now)
 pub line_step-requires-clause-near : goal.line_step-requires-clause-near
 line_step-requires-clause-near c =
     let n = length-lines_of c.args.rows.now c.args.cuts.now in
-    (lines-near c.loop-place.place (lines_of c.args.rows.now c.args.cuts.now) c.args.self.now c.loop-place.self (omega (arith, n, c.loop-place-test.true)) c.requires.near c.requires.lines c.loop-place.invariant).near
+    (lines-near c.loop-place.place (lines_of c.args.rows.now c.args.cuts.now) c.args.self.now
+    c.loop-place.self (omega (arith, n, c.loop-place-test.true)) c.requires.near
+    c.requires.lines c.loop-place.invariant).near
 
 pub line_step-requires-clause-line : goal.line_step-requires-clause-line
 line_step-requires-clause-line c =
     let n = length-lines_of c.args.rows.now c.args.cuts.now in
     let lines = lines_of c.args.rows.now c.args.cuts.now in
-    let s = lines-near c.loop-place.place lines c.args.self.now c.loop-place.self (omega (arith, n, c.loop-place-test.true)) c.requires.near c.requires.lines c.loop-place.invariant in
+    let s = lines-near c.loop-place.place lines c.args.self.now c.loop-place.self
+    (omega (arith, n, c.loop-place-test.true)) c.requires.near c.requires.lines
+    c.loop-place.invariant in
     let d : Line = record { terms = []; low = None; high = None } in
-    rw (s.width, c.line.ensures) (c.requires.lines c.loop-place.place d (omega (arith, n, c.loop-place-test.true)))
+    rw (s.width, c.line.ensures)
+    (c.requires.lines c.loop-place.place d (omega (arith, n, c.loop-place-test.true)))
 
 pub loop-place-preserved : goal.loop-place-preserved
 loop-place-preserved c =
     let lines = lines_of c.args.rows.now c.args.cuts.now in
     c.in_ok-line_step.ensures
     ∙ ap (λ (l : Line). line_step c.loop-place.place l c.loop-place.self) c.line.ensures
-    ∙ ap (λ (p : Pass). line_step c.loop-place.place (line_at lines c.loop-place.place) p) c.loop-place.invariant
+    ∙ ap (λ (p : Pass). line_step c.loop-place.place (line_at lines c.loop-place.place) p)
+    c.loop-place.invariant
     ∙ sym (walked-more c.loop-place.place lines c.args.self.now)
