@@ -5,8 +5,8 @@ use std::alloc::{AllocError, Global};
 use std::sync::atomic::{AtomicU64, Ordering};
 use std::thread;
 
-/// The passing of a worker that is held, and the one of a worker that it is held until. The passings of
-/// a worker at a moment are counted from 1.
+/// The passing of a worker that is held, and the one of a worker that it is held until. The
+/// passings of a worker at a moment are counted from 1.
 #[derive(Clone, Copy, Debug, PartialEq, Eq)]
 pub struct Hold {
     pub worker: u32,
@@ -17,9 +17,9 @@ pub struct Hold {
     pub until_passing: u32,
 }
 
-/// A gate that counts the passings of the workers 0 to 64 and holds some of them. A hold ends when the
-/// other passing has come, or after so many turns of its loop. Where several holds are of one passing,
-/// each begins when the one before it has ended.
+/// A gate that counts the passings of the workers 0 to 64 and holds some of them. A hold ends
+/// when the other passing has come, or after so many turns of its loop. Where several holds are
+/// of one passing, each begins when the one before it has ended.
 #[derive(Drop)]
 pub struct HoldGate {
     holds: Vec<Hold>,

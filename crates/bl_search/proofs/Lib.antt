@@ -1,5 +1,5 @@
 pub mod Places
-pub mod Putting
-pub mod Serials
+mod Putting
+mod Serials
 pub mod Tidying
-pub mod Turns
+mod Turns

@@ -13,7 +13,8 @@ use Rattle.bl_journal.specs.Descriptions.{full_of}
 use Rattle.bl_branch.specs.declared.place.Place.{Place}
 use Rattle.bl_branch.specs.Calls.{Calls, Answers}
 
--- a node of description d is split, if at all, at a place that P allows for the description after the common change
+-- a node of description d is split, if at all, at a place that P allows for the description
+-- after the common change
 abbrev pub IsPlaced : (Desc Cut → Place → Type 0) → Desc Cut → Step → Type 0
 IsPlaced P d Shut = Unit {0}
 IsPlaced P d (Split common column at) = P (changed common d) (record { column = column; at = at })
@@ -26,7 +27,8 @@ PutsAt P p past (Back seat id) = Unit {0}
 PutsAt P p past (Encode seat id form) = Unit {0}
 PutsAt P p past (Free seat ids) = Unit {0}
 
--- each split is at a place that P allows for its node's description after the common change. The last entry stands first
+-- each split is at a place that P allows for its node's description after the common change. The
+-- last entry stands first
 abbrev pub SplitsAt : (Desc Cut → Place → Type 0) → Program → List Entry → Type 0
 SplitsAt P p [] = Unit {0}
 SplitsAt P p (e ∷ past) = PutsAt P p past e × SplitsAt P p past

@@ -1,5 +1,6 @@
 -- The search by one seat.
-use Rattle.std.specs.Prelude.{◌≡◌, ℕ, pos, ◌+◌, ◌*◌, ◌^◌, ◌%◌, ◌==◌, ◌<◌, ◌≤◌, List, ◌++◌, All, Bool, true, false, reverse, Option, Some, None, IfSome}
+use Rattle.std.specs.Prelude.{◌≡◌, ℕ, pos, ◌+◌, ◌*◌, ◌^◌, ◌%◌, ◌==◌, ◌<◌, ◌≤◌, List, ◌++◌, All}
+use Rattle.std.specs.Prelude.{Bool, true, false, reverse, Option, Some, None, IfSome}
 use Rattle.bl_problem.specs.Program.{Program}
 use Rattle.bl_problem.specs.declared.cut.Cut.{Cut}
 use Rattle.bl_desc.specs.declared.desc.Desc.{Desc}
@@ -8,13 +9,15 @@ use Rattle.bl_journal.specs.declared.entry.Entry.{Entry}
 use Rattle.bl_journal.specs.declared.outcome.Outcome.{Outcome}
 use Rattle.bl_journal.specs.declared.settings.Settings.{Settings}
 use Rattle.bl_journal.specs.States.{state_of, used_of}
-use Rattle.bl_journal.specs.Replies.{Reply, is_out, take_reply, done as says_done, spent as says_spent}
+use Rattle.bl_journal.specs.Replies.{Reply, is_out, take_reply, done as says_done}
+use Rattle.bl_journal.specs.Replies.{spent as says_spent}
 use Rattle.bl_journal.specs.Legality.{IsLegal, seat_of, ids_added, most_new_cuts}
 use Rattle.bl_journal.specs.Results.{HasNoLive, IsSpent, IsFinal, answer_of}
 use Rattle.bl_journal.specs.Freeing.{HasNothingToFree}
 use Rattle.bl_journal.specs.Tidying.{IsUpkeepBy, IsSettled, WasSettled, IsTidied, splits_of}
 use Rattle.bl_tree.specs.declared.answer.Born.{Born}
-use Rattle.bl_tree.specs.Views.{TreeView, LeaseView, IsLegalTree, IsLeaseOf, IsPutFor, past_of, extended, put_entry}
+use Rattle.bl_tree.specs.Views.{TreeView, LeaseView, IsLegalTree, IsLeaseOf, IsPutFor, past_of}
+use Rattle.bl_tree.specs.Views.{extended, put_entry}
 use Rattle.bl_branch.specs.declared.place.Place.{Place}
 use Rattle.bl_search.specs.Places.{PutsAt}
 use Rattle.bl_tree.specs.Answers.{born_for}
@@ -27,8 +30,8 @@ use Rattle.bl_search.specs.declared.search.EndedSearch.{EndedSearch}
 abbrev pub AreSerialsBelow : ℕ → ℕ → List Entry → Type 0
 AreSerialsBelow seat serial past = All (λ id. id.seat ≡ seat → id.serial < serial) (ids_added past)
 
--- what a seat's work on a node at this depth may do, where each depth that the span divides is stored whole, with serial
--- numbers from this one on
+-- what a seat's work on a node at this depth may do, where each depth that the span divides is
+-- stored whole, with serial numbers from this one on
 pub record AreLimitsAt (span depth seat serial : ℕ) (limits : Limits) : Type 0 where
   pub few_cuts : limits.new_cuts ≤ most_new_cuts depth
   pub room : serial + limits.new_cuts < 2 ^ 32
@@ -36,16 +39,20 @@ pub record AreLimitsAt (span depth seat serial : ℕ) (limits : Limits) : Type 0
   pub seat_is : limits.seat ≡ seat
   pub serial_is : limits.serial ≡ serial
 
--- the lease of a seat stands in this legal tree, and the serial numbers from this one on are free for the seat's cuts
-pub record IsWorkable (p : Program) (span seat serial : ℕ) (lease : LeaseView) (t : TreeView) : Type 0 where
+-- the lease of a seat stands in this legal tree, and the serial numbers from this one on are
+-- free for the seat's cuts
+pub record MayBeWorkedOn (p : Program) (span seat serial : ℕ) (lease : LeaseView) (t : TreeView) :
+    Type 0 where
   pub legal : IsLegalTree t
   pub problem : t.problem ≡ p
   pub span_is : t.settings.span ≡ span
   pub leased : IsLeaseOf t seat lease
   pub serials : AreSerialsBelow seat serial (past_of t)
 
--- the outcome may be put in here; then the serial numbers from this one on are free, and it splits at a place that P allows
-pub record IsWorkedOut (P : Desc Cut → Place → Type 0) (p : Program) (seat serial : ℕ) (lease : LeaseView) (o : Outcome) (t : TreeView) : Type 0 where
+-- the outcome may be put in here; then the serial numbers from this one on are free, and it
+-- splits at a place that P allows
+pub record IsWorkedOut (P : Desc Cut → Place → Type 0) (p : Program) (seat serial : ℕ)
+    (lease : LeaseView) (o : Outcome) (t : TreeView) : Type 0 where
   pub fits : IsPutFor t seat lease o
   pub serials : AreSerialsBelow seat serial (past_of (extended t (put_entry seat lease.id o)))
   pub places : PutsAt P p (past_of t) (put_entry seat lease.id o)
@@ -58,7 +65,8 @@ pub record IsBetweenTurns (t : TreeView) : Type 0 where
   pub seats : All (λ e. seat_of e ≡ 0) (past_of t)
 
 -- the outcome of some work was put in, and these nodes were born
-pub record PutsIn (old : TreeView) (lease : LeaseView) (born : Option Born) (new : TreeView) : Type 0 where
+pub record PutsIn (old : TreeView) (lease : LeaseView) (born : Option Born) (new : TreeView) :
+    Type 0 where
   pub outcome : Outcome
   pub is : new ≡ extended old (put_entry 0 lease.id outcome)
   pub born_is : born ≡ born_for old outcome.next
@@ -92,12 +100,16 @@ abbrev pub count_with : ℕ → Option Born → ℕ
 count_with count None = count
 count_with count (Some born) = count + 1
 
--- no node may be freed any more, and after each fourth split both children were explicit or freed at some time
-pub record HasTidied (old : TreeView) (born : Option Born) (count : ℕ) (new : TreeView) : Type 0 where
-  pub kept_up : IsKeptUp old new
-  pub nothing_to_free : HasNothingToFree new.problem new.settings (past_of new)
-  pub left : IfSome born (λ b. count % 4 ≡ 0 → WasSettled old.problem old.settings 0 kept_up.entries (past_of old) b.left)
-  pub right : IfSome born (λ b. count % 4 ≡ 0 → WasSettled old.problem old.settings 0 kept_up.entries (past_of old) b.right)
+-- no node may be freed any more, and after each fourth split both children were explicit or
+-- freed at some time
+pub record HasTidied (old : TreeView) (born : Option Born) (count : ℕ) (new : TreeView) : Type 0
+  where
+    pub kept_up : IsKeptUp old new
+    pub nothing_to_free : HasNothingToFree new.problem new.settings (past_of new)
+    pub left : IfSome born (λ b. count % 4 ≡ 0
+        → WasSettled old.problem old.settings 0 kept_up.entries (past_of old) b.left)
+    pub right : IfSome born (λ b. count % 4 ≡ 0
+        → WasSettled old.problem old.settings 0 kept_up.entries (past_of old) b.right)
 
 -- one more node was used, and so many puts have split by now
 pub record HasWorked (old : TreeView) (count : ℕ) (new : TreeView) : Type 0 where
@@ -109,9 +121,12 @@ pub record HasWorked (old : TreeView) (count : ℕ) (new : TreeView) : Type 0 wh
   pub count_grew : count ≤ splits_of 0 (past_of old) + 1
 
 abbrev pub EndsTurn : TreeView → Turn → TreeView → Type 0
-EndsTurn old (Worked count serial) new = HasWorked old count new × AreSerialsBelow 0 serial (past_of new)
-EndsTurn old Done new = (new ≡ old) × (take_reply old.problem old.settings (past_of old) ≡ says_done)
-EndsTurn old Spent new = (new ≡ old) × (take_reply old.problem old.settings (past_of old) ≡ says_spent)
+EndsTurn old (Worked count serial) new = HasWorked old count new
+    × AreSerialsBelow 0 serial (past_of new)
+EndsTurn old Done new = (new ≡ old)
+    × (take_reply old.problem old.settings (past_of old) ≡ says_done)
+EndsTurn old Spent new = (new ≡ old)
+    × (take_reply old.problem old.settings (past_of old) ≡ says_spent)
 
 -- the budget is spent and a live node waits: it was less than twice the number of points, less 1
 pub record IsLimited (p : Program) (s : Settings) (past : List Entry) : Type 0 where
@@ -132,9 +147,10 @@ abbrev pub last_reply : Bool → Reply
 last_reply true = says_spent
 last_reply false = says_done
 
--- the history of a search by seat 0 and so many workers that has ended: no node is out, none may be freed, and each seat
--- has tidied
-pub record IsEndedHistory (p : Program) (s : Settings) (workers : ℕ) (limited : Bool) (history : List Entry) : Type 0 where
+-- the history of a search by seat 0 and so many workers that has ended: no node is out, none may
+-- be freed, and each seat has tidied
+pub record IsEndedHistory (p : Program) (s : Settings) (workers : ℕ) (limited : Bool)
+    (history : List Entry) : Type 0 where
   pub legal : IsLegal p s history
   pub none_out : (id : ℕ) → is_out (state_of (reverse history) id) ≡ false
   pub seats : All (λ e. seat_of e ≤ workers) history
@@ -143,7 +159,8 @@ pub record IsEndedHistory (p : Program) (s : Settings) (workers : ℕ) (limited 
   pub ends : EndsBy limited p s (reverse history)
 
 -- a search by seat 0 and so many workers has ended
-pub record IsSearched (p : Program) (s : Settings) (workers : ℕ) (search : EndedSearch) : Type 0 where
-  pub problem : search.tree.problem ≡ p
-  pub settings : search.tree.settings ≡ s
-  pub ended : IsEndedHistory p s workers search.limited search.tree.history
+pub record IsSearched (p : Program) (s : Settings) (workers : ℕ) (search : EndedSearch) : Type 0
+  where
+    pub problem : search.tree.problem ≡ p
+    pub settings : search.tree.settings ≡ s
+    pub ended : IsEndedHistory p s workers search.limited search.tree.history

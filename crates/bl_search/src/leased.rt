@@ -3,7 +3,7 @@ ghost use Rattle.std.specs.Prelude.{◌≡◌, ◌<◌, ◌≤◌, ◌+◌, ◌^
 ghost use Rattle.bl_branch.specs.Calls.{IsRule};
 ghost use Rattle.bl_journal.specs.Legality.{most_new_cuts};
 ghost use Rattle.bl_tree.specs.Views.{TreeView};
-ghost use Rattle.bl_search.specs.Searches.{AreLimitsAt, IsWorkable, IsWorkedOut};
+ghost use Rattle.bl_search.specs.Searches.{AreLimitsAt, MayBeWorkedOn, IsWorkedOut};
 ghost use Rattle.bl_search.specs.Places.{MayAnswer};
 
 use bl_branch::{BranchRule, Place};
@@ -90,11 +90,13 @@ pub fn work_on<F: Fn(&Desc<Cut>, &[Fixed]) -> Place, S: Separate>(
     seat: u32,
     serial: u32,
 ) -> Result<Worked, AllocError>
-    requires leased { (t : TreeView) × IsWorkable problem.now span seat serial lease.now t }
+    requires leased { (t : TreeView) × MayBeWorkedOn problem.now span seat serial lease.now t }
     requires some_span { 0 < span }
     requires rule { IsRule F.Fn rule.now.closure }
-    ensures { IfOk result (λ w. (t : TreeView) → IsWorkable problem.now span seat serial lease.now t
-        → IsWorkedOut (MayAnswer F.Fn rule.now.closure) problem.now seat w.serial lease.now w.outcome t) }
+    ensures { IfOk result (λ w. (t : TreeView) → MayBeWorkedOn problem.now span seat serial
+        lease.now t
+        → IsWorkedOut (MayAnswer F.Fn rule.now.closure) problem.now seat w.serial lease.now
+        w.outcome t) }
 {
     leases_are_workable();
     children_follow();

@@ -1,11 +1,17 @@
-//! The search: seat 0 takes a node, works on it, puts it back and tidies up, until no node is live or the budget is spent.
-ghost use Rattle.std.specs.Prelude.{◌≡◌, pos, ◌≤ℤ◌, ◌<◌, ◌≤◌, ◌+◌, ◌%◌, ◌==◌, IfOk, OnOk, IfSome};
-ghost use Rattle.bl_tree.specs.Views.{IsLeaseOf, past_of};
+//! The search: seat 0 takes a node, works on it, puts it back and tidies up, until no node is
+//! live or the budget is spent.
+ghost use Rattle.std.specs.Prelude.{◌≡◌, pos, ◌≤ℤ◌, ◌<◌, ◌≤◌, ◌+◌, ◌%◌, ◌==◌, IfOk, OnErr, OnOk};
+ghost use Rattle.std.specs.Prelude.{IfSome};
+ghost use Rattle.bl_tree.specs.Views.{IsLeaseOf, extended, past_of};
 ghost use Rattle.bl_tree.specs.Answers.{IsBorn};
-ghost use Rattle.bl_search.specs.Searches.{IsBetweenTurns, EndsTurn, PutsIn, IsStoredWhole, AreStoredWhole, IsFreed, HasTidied, count_with, IsSearched, IsEndedHistory, last_reply, AreSerialsBelow};
+ghost use Rattle.bl_search.specs.Searches.{IsBetweenTurns, EndsTurn, PutsIn, IsStoredWhole};
+ghost use Rattle.bl_search.specs.Searches.{AreStoredWhole, IsFreed, HasTidied, count_with};
+ghost use Rattle.bl_search.specs.Searches.{IsSearched, IsEndedHistory, last_reply};
+ghost use Rattle.bl_search.specs.Searches.{AreSerialsBelow};
 ghost use Rattle.bl_search.specs.Places.{MayAnswer, SplitsAt};
 ghost use Rattle.bl_branch.specs.Calls.{IsRule};
-ghost use Rattle.bl_journal.specs.declared.settings.TheConstants.{LARGEST_GAP};
+ghost use Rattle.bl_journal.specs.declared.limits.TheConstants.{LARGEST_GAP, MOST_NODES, MOST_SPAN};
+ghost use Rattle.bl_journal.specs.declared.entry.Entry.TheVariants.{Back};
 ghost use Rattle.bl_journal.specs.Replies.{take_reply};
 ghost use Rattle.bl_journal.specs.Tidying.{splits_of};
 
@@ -29,8 +35,8 @@ const SPLITS: u32 = 4;
 /// How a turn of the search ended.
 #[derive(Clone, Copy, PartialEq, Eq)]
 pub enum Turn {
-    /// A node was taken, its outcome was put in, and the tree was tidied. So many puts have split by now, and serial numbers
-    /// from this one on are free for cuts.
+    /// A node was taken, its outcome was put in, and the tree was tidied. So many puts have
+    /// split by now, and serial numbers from this one on are free for cuts.
     Worked { splits: u32, serial: u32 },
     /// No node is live.
     Done,
@@ -44,7 +50,8 @@ struct Finished {
     serial: u32,
 }
 
-// Works on the node of a lease and puts the outcome in, or hands the node back where there is no memory.
+// Works on the node of a lease and puts the outcome in, or hands the node back where there is no
+// memory.
 fn finish<F: Fn(&Desc<Cut>, &[Fixed]) -> Place, S: Separate>(
     alloc: Global,
     problem: &Problem,
@@ -65,7 +72,9 @@ fn finish<F: Fn(&Desc<Cut>, &[Fixed]) -> Place, S: Separate>(
     requires places { SplitsAt (MayAnswer F.Fn rule.now.closure) problem.now (past_of tree.old) }
     ensures put { IfOk result (λ f. PutsIn tree.old lease f.born tree.new) }
     ensures serials { IfOk result (λ f. AreSerialsBelow 0 f.serial (past_of tree.new)) }
-    ensures places { IfOk result (λ f. SplitsAt (MayAnswer F.Fn rule.now.closure) problem.now (past_of tree.new)) }
+    ensures places { IfOk result
+        (λ f. SplitsAt (MayAnswer F.Fn rule.now.closure) problem.now (past_of tree.new)) }
+    ensures waits { OnErr result (tree.new ≡ extended tree.old (Back 0 lease.id)) }
 {
     let _journal = tree.journal();
     match work_on(
@@ -118,11 +127,12 @@ pub fn free_all(tree: &mut Tree) -> Result<(), AllocError>
     Ok(())
 }
 
-// Tidies up after a put: after each fourth split both children are stored whole; then nodes are freed until none may be. The answer is how many puts have split.
+// Tidies up after a put: after each fourth split both children are stored whole; then nodes are
+// freed until none may be. The answer is how many puts have split.
 fn tidy(alloc: Global, tree: &mut Tree, born: Option<Born>, splits: u32) -> Result<u32, AllocError>
     requires left { IfSome born (λ b. IsBorn tree.old b.left) }
     requires right { IfSome born (λ b. IsBorn tree.old b.right) }
-    requires few { splits ≤ 100000 }
+    requires few { splits ≤ MOST_NODES }
     ensures count { IfOk result (λ count. count ≡ count_with splits born) }
     ensures tidied { IfOk result (λ count. HasTidied tree.old born count tree.new) }
 {
@@ -154,12 +164,13 @@ fn take_turn<F: Fn(&Desc<Cut>, &[Fixed]) -> Place, S: Separate>(
     requires some_span { 0 < span }
     requires between { IsBetweenTurns tree.old }
     requires splits { splits ≡ splits_of 0 (past_of tree.old) }
-    requires few { splits ≤ 100000 }
+    requires few { splits ≤ MOST_NODES }
     requires rule { IsRule F.Fn rule.now.closure }
     requires serials { AreSerialsBelow 0 serial (past_of tree.old) }
     requires places { SplitsAt (MayAnswer F.Fn rule.now.closure) problem.now (past_of tree.old) }
     ensures turn { IfOk result (λ turn. EndsTurn tree.old turn tree.new) }
-    ensures places { IfOk result (λ turn. SplitsAt (MayAnswer F.Fn rule.now.closure) problem.now (past_of tree.new)) }
+    ensures places { IfOk result (λ turn. SplitsAt (MayAnswer F.Fn rule.now.closure) problem.now
+        (past_of tree.new)) }
 {
     match tree.take(0)? {
         Taken::Node(lease) => {
@@ -205,14 +216,15 @@ pub fn search_tree<F: Fn(&Desc<Cut>, &[Fixed]) -> Place, S: Separate>(
     rule: &BranchRule<F>,
     separator: &S,
 ) -> Result<EndedSearch, AllocError>
-    requires nodes { settings.nodes ≤ 100000 }
+    requires nodes { settings.nodes ≤ MOST_NODES }
     requires some_span { 0 < settings.span }
-    requires few_spans { settings.span ≤ 64 }
+    requires few_spans { settings.span ≤ MOST_SPAN }
     requires some_gap { pos 0 ≤ℤ settings.gap }
     requires few_gaps { settings.gap ≤ℤ LARGEST_GAP }
     requires rule { IsRule F.Fn rule.now.closure }
     ensures searched { IfOk result (λ search. IsSearched problem.now.value settings 0 search) }
-    ensures places { IfOk result (λ search. SplitsAt (MayAnswer F.Fn rule.now.closure) problem.now.value (past_of search.tree)) }
+    ensures places { IfOk result (λ search. SplitsAt (MayAnswer F.Fn rule.now.closure)
+        problem.now.value (past_of search.tree)) }
 {
     budget_holds();
     let mut tree = Tree::new(alloc, Arc::try_clone(problem)?, settings)?;

@@ -1,5 +1,6 @@
 -- The history once all workers have ended.
-use Rattle.std.specs.Prelude.{◌≡◌, ◌≢◌, ◌⊎◌, ℕ, ◌+◌, ◌<◌, ◌≤◌, List, ◌++◌, All, length, slice_index_or}
+use Rattle.std.specs.Prelude.{◌≡◌, ◌≢◌, ◌⊎◌, ℕ, ◌+◌, ◌<◌, ◌≤◌, List, ◌++◌, All, length}
+use Rattle.std.specs.Prelude.{slice_index_or}
 use Rattle.bl_problem.specs.declared.cut.Cut.{Cut}
 use Rattle.bl_desc.specs.declared.desc.Desc.{Desc}
 use Rattle.bl_journal.specs.declared.entry.Entry.{Entry}
@@ -9,7 +10,7 @@ use Rattle.bl_branch.specs.declared.place.Place.{Place}
 use Rattle.bl_tree.specs.Views.{TreeView, past_of}
 use Rattle.bl_turn.specs.Entries.{entries_by, FromOneTo}
 use Rattle.bl_shared.specs.Calls.{Knows, tree_seen}
-use Rattle.bl_shared.specs.Laws.{HasNoneOut, HasNoBack, IsOver}
+use Rattle.bl_journal.specs.Seats.{HasNoneOut, HasNoBack, IsOver}
 use Rattle.bl_worker.specs.declared.worker.WorkerEnd.{WorkerEnd}
 use Rattle.bl_worker.specs.declared.worker.WorkerEnd.TheVariants.{Memory}
 use Rattle.bl_worker.specs.Splits.{SplitsBy}
@@ -28,9 +29,9 @@ pub record HasClosed (t : TreeView) (entries : List Entry) : Type 0 where
   pub no_back : HasNoBack entries
   pub over : IsOver t.problem t.settings (past_of t)
 
--- What runs of workers do, told by what seat 0 knows before and after. They added entries of their own
--- numbers alone, and no node is out. Each that did not end for want of memory gave no node back and has
--- tidied; where none did, no node was given back and the search is over
+-- What runs of workers do, told by what seat 0 knows before and after. They added entries of
+-- their own numbers alone, and no node is out. Each that did not end for want of memory gave no
+-- node back and has tidied; where none did, no node was given back and the search is over
 pub record HaveEnded (workers : ℕ) (v : Knows) (ends : List WorkerEnd) (w : Knows) : Type 0 where
   pub count : length ends ≡ workers
   pub number : w.number ≡ v.number

@@ -16,7 +16,15 @@ use Rattle.bl_worker.specs.Loops.{HasLooped}
 
 -- what the worker of this number knows at its start, where seat 0 knows this
 abbrev pub first_of_worker : Knows → ℕ → Knows
-first_of_worker v number = record { number = number; base = v.base; seen = v.seen; mine = entries_by seat_of number v.seen; given = 0; ended = [] }
+first_of_worker v number = record {
+  number = number;
+  base = v.base;
+  seen = v.seen;
+  mine =
+      entries_by seat_of number v.seen;
+  given = 0;
+  ended = [];
+}
 
 -- the seat of the worker of this number, which has not begun
 pub record IsWorkerSeat (t : SharedTree) (v : Knows) (number : ℕ) (j : Job) : Type 0 where
@@ -25,7 +33,8 @@ pub record IsWorkerSeat (t : SharedTree) (v : Knows) (number : ℕ) (j : Job) : 
 
 -- the seats of the workers, by their numbers from 1 on
 abbrev pub AreWorkerSeats : SharedTree → Knows → List Job → Type 0
-AreWorkerSeats t v jobs = (i : ℕ) (d : Job) → i < length jobs → IsWorkerSeat t v (i + 1) (slice_index_or jobs i d)
+AreWorkerSeats t v jobs = (i : ℕ) (d : Job) → i < length jobs
+    → IsWorkerSeat t v (i + 1) (slice_index_or jobs i d)
 
 -- the seat is one of the tree's, and has no entry
 pub record IsReady (t : SharedTree) (p : Program) (span : ℕ) (j : Job) : Type 0 where
@@ -40,8 +49,8 @@ pub record HasRun (P : Desc Cut → Place → Type 0) (t : SharedTree) (old new 
   pub looped : HasLooped (view_of old.seat) new.end (view_of new.seat)
   pub places : SplitsOwnAt P (view_of new.seat)
 
--- seat 0 took in these seats: it has seen what each had, and in the history as it knows it each has the
--- entries that it had
+-- seat 0 took in these seats: it has seen what each had, and in the history as it knows it each
+-- has the entries that it had
 pub record HaveJoined (v : Knows) (jobs : List Job) (w : Knows) : Type 0 where
   pub number : w.number ≡ v.number
   pub base : w.base ≡ v.base
@@ -50,5 +59,6 @@ pub record HaveJoined (v : Knows) (jobs : List Job) (w : Knows) : Type 0 where
   pub seen : w.seen ≡ v.seen ++ entries
   pub from_given : FromOneTo seat_of v.given entries
   pub met : All (λ j. BeginsWith w.seen (view_of j.seat).seen) jobs
-  pub own : All (λ j. entries_by seat_of (view_of j.seat).number w.seen ≡ (view_of j.seat).mine) jobs
+  pub own : All (λ j. entries_by seat_of (view_of j.seat).number w.seen ≡ (view_of j.seat).mine)
+      jobs
   pub joined : length w.ended ≡ length v.ended + length jobs

@@ -1,18 +1,22 @@
 -- What a worker does to the shared tree, told by what its seat knows.
-use Rattle.std.specs.Prelude.{◌≡◌, ℕ, ◌+◌, ◌%◌, List, ◌++◌, All, false, reverse, Option, Some, None, IfSome}
+use Rattle.std.specs.Prelude.{◌≡◌, ℕ, ◌+◌, ◌%◌, List, ◌++◌, All, false, reverse, Option, Some}
+use Rattle.std.specs.Prelude.{None, IfSome}
 use Rattle.bl_journal.specs.declared.entry.Entry.{Entry}
 use Rattle.bl_journal.specs.declared.outcome.Outcome.{Outcome}
 use Rattle.bl_journal.specs.States.{state_of}
-use Rattle.bl_journal.specs.Replies.{Reply, is_out, take_reply, done as says_done, spent as says_spent}
+use Rattle.bl_journal.specs.Replies.{Reply, is_out, take_reply, done as says_done}
+use Rattle.bl_journal.specs.Replies.{spent as says_spent}
 use Rattle.bl_journal.specs.Legality.{seat_of}
 use Rattle.bl_journal.specs.Tidying.{IsUpkeepBy, IsSettled, WasSettled, IsTidied, splits_of}
 use Rattle.bl_tree.specs.declared.answer.Born.{Born}
 use Rattle.bl_tree.specs.Views.{LeaseView, past_of}
 use Rattle.bl_search.specs.Searches.{AreSerialsBelow}
 use Rattle.bl_shared.specs.Calls.{Knows, tree_seen, PutsIn}
-use Rattle.bl_shared.specs.Laws.{HasNoBack}
+use Rattle.bl_journal.specs.Seats.{HasNoBack}
 use Rattle.bl_worker.specs.declared.worker.WorkerEnd.{WorkerEnd}
-use Rattle.bl_worker.specs.declared.worker.WorkerEnd.TheVariants.{Done as EndDone, Spent as EndSpent, Memory as EndMemory}
+use Rattle.bl_worker.specs.declared.worker.WorkerEnd.TheVariants.{Done as EndDone}
+use Rattle.bl_worker.specs.declared.worker.WorkerEnd.TheVariants.{Spent as EndSpent}
+use Rattle.bl_worker.specs.declared.worker.WorkerEnd.TheVariants.{Memory as EndMemory}
 use Rattle.bl_worker.specs.declared.worker.Round.{Round}
 use Rattle.bl_worker.specs.declared.worker.Round.TheVariants.{Worked, Idle, Done, Spent}
 
@@ -44,7 +48,8 @@ pub record IsKeptUp (v w : Knows) : Type 0 where
 
 -- the node is explicit or freed
 abbrev pub IsStoredWhole : ℕ → Knows → Type 0
-IsStoredWhole id w = IsSettled (tree_seen w).problem (tree_seen w).settings (past_of (tree_seen w)) id
+IsStoredWhole id w = IsSettled (tree_seen w).problem (tree_seen w).settings
+    (past_of (tree_seen w)) id
 
 -- how many puts have split, counted anew after each fourth, once these nodes were born
 abbrev pub count_with : ℕ → Option Born → ℕ
@@ -54,8 +59,10 @@ count_with count (Some born) = (count + 1) % 4
 -- both children were explicit or freed at some time, where they are those of a fourth split
 pub record HasTidied (v : Knows) (born : Option Born) (count : ℕ) (w : Knows) : Type 0 where
   pub kept_up : IsKeptUp v w
-  pub left : IfSome born (λ b. count ≡ 0 → WasSettled (tree_seen v).problem (tree_seen v).settings v.number (reverse kept_up.entries) (past_of (tree_seen v)) b.left)
-  pub right : IfSome born (λ b. count ≡ 0 → WasSettled (tree_seen v).problem (tree_seen v).settings v.number (reverse kept_up.entries) (past_of (tree_seen v)) b.right)
+  pub left : IfSome born (λ b. count ≡ 0 → WasSettled (tree_seen v).problem (tree_seen v).settings
+      v.number (reverse kept_up.entries) (past_of (tree_seen v)) b.left)
+  pub right : IfSome born (λ b. count ≡ 0 → WasSettled (tree_seen v).problem
+      (tree_seen v).settings v.number (reverse kept_up.entries) (past_of (tree_seen v)) b.right)
 
 -- no node is out with the seat, as its own entries tell: each of its takes has its put or back
 abbrev pub HoldsNone : Knows → Type 0
@@ -70,7 +77,8 @@ AreOwnSerialsBelow serial v = AreSerialsBelow v.number serial (past_of (tree_see
 pub record IsBetween (v : Knows) (splits : ℕ) : Type 0 where
   pub holds_none : HoldsNone v
   pub no_back : HasNoBack v.mine
-  pub tidied : IsTidied (tree_seen v).problem (tree_seen v).settings v.number (past_of (tree_seen v))
+  pub tidied : IsTidied (tree_seen v).problem (tree_seen v).settings v.number
+      (past_of (tree_seen v))
   pub counted : splits ≡ splits_of v.number (past_of (tree_seen v)) % 4
 
 -- a loop or a round that ended for want of memory
@@ -80,7 +88,8 @@ pub record Fails (v w : Knows) : Type 0 where
 
 -- the reply that a take got at what the seat has seen
 abbrev pub WasTold : Reply → Knows → Type 0
-WasTold reply w = take_reply (tree_seen w).problem (tree_seen w).settings (past_of (tree_seen w)) ≡ reply
+WasTold reply w = take_reply (tree_seen w).problem (tree_seen w).settings (past_of (tree_seen w))
+    ≡ reply
 
 abbrev pub EndsRound : ℕ → ℕ → Round → Knows → Type 0
 EndsRound splits serial (Worked count next) w = IsBetween w count × AreOwnSerialsBelow next w
@@ -101,15 +110,16 @@ EndsLoop EndSpent w = WasTold says_spent w
 -- the seat gave no node back, and has tidied
 pub record IsOrderly (w : Knows) : Type 0 where
   pub no_back : HasNoBack w.mine
-  pub tidied : IsTidied (tree_seen w).problem (tree_seen w).settings w.number (past_of (tree_seen w))
+  pub tidied : IsTidied (tree_seen w).problem (tree_seen w).settings w.number
+      (past_of (tree_seen w))
 
 abbrev pub IsOrderlyAt : WorkerEnd → Knows → Type 0
 IsOrderlyAt EndMemory w = Unit {0}
 IsOrderlyAt EndDone w = IsOrderly w
 IsOrderlyAt EndSpent w = IsOrderly w
 
--- What a loop does. The seat holds no node at the end. Where it did not end for want of memory it gave
--- none back and has tidied, and its last take was answered so
+-- What a loop does. The seat holds no node at the end. Where it did not end for want of memory
+-- it gave none back and has tidied, and its last take was answered so
 pub record HasLooped (v : Knows) (end : WorkerEnd) (w : Knows) : Type 0 where
   pub grows : Grows v w
   pub holds_none : HoldsNone w

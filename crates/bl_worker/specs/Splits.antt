@@ -10,7 +10,8 @@ use Rattle.bl_tree.specs.Views.{past_of}
 use Rattle.bl_shared.specs.Calls.{Knows, tree_seen}
 use Rattle.bl_search.specs.Places.{PutsAt}
 
--- each split of the seat is at a place that P allows for its node's description after the common change. The last entry stands first
+-- each split of the seat is at a place that P allows for its node's description after the common
+-- change. The last entry stands first
 abbrev pub SplitsBy : ℕ → (Desc Cut → Place → Type 0) → Program → List Entry → Type 0
 SplitsBy seat P p [] = Unit {0}
 SplitsBy seat P p (e ∷ past) = (seat_of e ≡ seat → PutsAt P p past e) × SplitsBy seat P p past

@@ -13,8 +13,8 @@ use bl_tree::{Born, Freed, Installed, Job, Lease, Taken};
 use std::alloc::AllocError;
 use std::sync::Wait;
 
-// Takes a node, if a live one waits and the budget allows it. At Idle it sleeps until a node is put or
-// given back.
+// Takes a node, if a live one waits and the budget allows it. At Idle it sleeps until a node is
+// put or given back.
 pub(crate) fn take<R: Wait, G: Gate>(
     rt: &R,
     tree: &SharedTree,

@@ -6,7 +6,8 @@ ghost use Rattle.bl_turn.specs.Seats.{view_of, number, given, seen};
 ghost use Rattle.bl_search.specs.Places.{MayAnswer};
 ghost use Rattle.bl_shared.specs.Calls.{IsSeatOf, tree_seen};
 ghost use Rattle.bl_worker.specs.Jobs.{AreWorkerSeats, IsReady, HasRun, HaveJoined};
-ghost use Rattle.bl_shared.specs.Laws.{HasNoneOut};
+ghost use Rattle.bl_journal.specs.Seats.{HasNoneOut};
+ghost use Rattle.bl_journal.specs.declared.limits.TheConstants.{MOST_WORKERS};
 ghost use Rattle.bl_worker.specs.Ends.{HasNoneByWorkers, HaveEnded, SplitByWorkersAt};
 
 use crate::gate::Gate;
@@ -15,8 +16,8 @@ use bl_branch::{BranchRule, Place};
 use bl_cover::Separate;
 use bl_desc::Desc;
 use bl_fixed::Fixed;
+use bl_journal::laws::{holders_are_told, searches_end, seats_stay_tidy};
 use bl_problem::{Cut, Problem};
-use bl_shared::laws::{holders_are_told, searches_end, seats_stay_tidy};
 use bl_shared::{SharedTree, TreeSeat};
 use std::alloc::{AllocError, Global};
 use std::sync::Wait;
@@ -35,7 +36,7 @@ fn split_all(tree: &SharedTree, seat: &mut TreeSeat, workers: u32, jobs: &mut Ve
     requires seat { IsSeatOf tree.now seat.old }
     requires first { number seat.old ≡ 0 }
     requires none_given { given seat.old ≡ 0 }
-    requires few { workers ≤ 64 }
+    requires few { workers ≤ MOST_WORKERS }
     requires empty { jobs.old.items ≡ [] }
     requires room { workers ≤ vec_capacity jobs.old }
     ensures seat { IsSeatOf tree.now seat.new }
@@ -155,7 +156,7 @@ pub fn run_workers<
     requires first { number seat.old ≡ 0 }
     requires none_given { given seat.old ≡ 0 }
     requires some_workers { 1 ≤ workers }
-    requires few_workers { workers ≤ 64 }
+    requires few_workers { workers ≤ MOST_WORKERS }
     requires none_out { HasNoneOut (seen seat.old) }
     requires others { HasNoneByWorkers workers (seen seat.old) }
     requires problem { (tree_seen (view_of seat.old)).problem ≡ problem.now }

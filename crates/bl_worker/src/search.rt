@@ -1,7 +1,8 @@
 //! The search of many seats.
 ghost use Rattle.std.specs.Prelude.{◌≡◌, ◌≢◌, pos, ◌≤ℤ◌, ◌<◌, ◌≤◌, [], IfOk, All, false};
 ghost use Rattle.bl_branch.specs.Calls.{IsRule};
-ghost use Rattle.bl_journal.specs.declared.settings.TheConstants.{LARGEST_GAP};
+ghost use Rattle.bl_journal.specs.declared.limits.TheConstants.{LARGEST_GAP, MOST_NODES};
+ghost use Rattle.bl_journal.specs.declared.limits.TheConstants.{MOST_SPAN, MOST_WORKERS};
 ghost use Rattle.bl_tree.specs.Views.{past_of};
 ghost use Rattle.bl_search.specs.Searches.{IsSearched, IsEndedHistory};
 ghost use Rattle.bl_search.specs.Places.{MayAnswer, SplitsAt};
@@ -60,7 +61,7 @@ fn work_through<
     requires span { tree.settings.span ≡ span }
     requires some_span { 0 < span }
     requires some_workers { 1 ≤ workers }
-    requires few_workers { workers ≤ 64 }
+    requires few_workers { workers ≤ MOST_WORKERS }
     requires rule { IsRule F.Fn rule.now.closure }
     ensures worked { IfOk result (IsWorkedThrough workers tree) }
     ensures places { IfOk result (λ t.
@@ -108,10 +109,10 @@ fn end(workers: u32, mut tree: Tree) -> Result<EndedSearch, AllocError>
     }
 }
 
-/// Searches the tree of a problem by these settings, with so many workers, 1 to 64, each in a thread
-/// where one can be had. Each split is at a place that the rule may answer for the node's description
-/// after the common change, and the separator proposes cuts. `AllocError` where there is no memory,
-/// also for a worker.
+/// Searches the tree of a problem by these settings, with so many workers, 1 to 64, each in a
+/// thread where one can be had. Each split is at a place that the rule may answer for the node's
+/// description after the common change, and the separator proposes cuts. `AllocError` where
+/// there is no memory, also for a worker.
 pub fn search_shared<
     R: Threads + Wait + Sync,
     G: Gate,
@@ -127,13 +128,13 @@ pub fn search_shared<
     separator: &S,
     gate: &G,
 ) -> Result<EndedSearch, AllocError>
-    requires nodes { settings.nodes ≤ 100000 }
+    requires nodes { settings.nodes ≤ MOST_NODES }
     requires some_span { 0 < settings.span }
-    requires few_spans { settings.span ≤ 64 }
+    requires few_spans { settings.span ≤ MOST_SPAN }
     requires some_gap { pos 0 ≤ℤ settings.gap }
     requires few_gaps { settings.gap ≤ℤ LARGEST_GAP }
     requires some_workers { 1 ≤ workers }
-    requires few_workers { workers ≤ 64 }
+    requires few_workers { workers ≤ MOST_WORKERS }
     requires rule { IsRule F.Fn rule.now.closure }
     ensures searched { IfOk result (λ search.
         IsSearched problem.now.value settings workers search) }

@@ -151,8 +151,8 @@ fn free_all<R: Wait, G: Gate>(
     unreachable!()
 }
 
-// Tidies up after a put: after each fourth split both children are stored whole; then nodes are freed
-// until none may be. The answer is how many puts have split since the last fourth one.
+// Tidies up after a put: after each fourth split both children are stored whole; then nodes are
+// freed until none may be. The answer is how many puts have split since the last fourth one.
 fn tidy<R: Wait, G: Gate>(
     rt: &R,
     alloc: Global,
@@ -229,11 +229,11 @@ fn run_round<R: Wait, G: Gate, F: Fn(&Desc<Cut>, &[Fixed]) -> Place, S: Separate
 }
 
 /// Takes nodes of the tree that the seat is at, works on them, hands the outcomes in and tidies up,
-/// until a take is answered Done or Spent or there is no memory; where no live node waits but one is
-/// out it tries again. Each split of the seat is at a place that the rule may answer for the node's
-/// description after the common change, and the separator proposes cuts, which the seat numbers from
-/// 0 on. The problem and the span are the tree's, and the seat has no entry yet. Each node that it
-/// takes it puts in or, at `Memory` alone, gives back.
+/// until a take is answered Done or Spent or there is no memory; where no live node waits but
+/// one is out it tries again. Each split of the seat is at a place that the rule may answer for
+/// the node's description after the common change, and the separator proposes cuts, which the
+/// seat numbers from 0 on. The problem and the span are the tree's, and the seat has no entry
+/// yet. Each node that it takes it puts in or, at `Memory` alone, gives back.
 pub fn worker_loop<R: Wait, G: Gate, F: Fn(&Desc<Cut>, &[Fixed]) -> Place, S: Separate>(
     rt: &R,
     alloc: Global,

@@ -7,5 +7,7 @@ use Rattle.bl_worker.proofs.worker.worker_loop.Given as goal
 
 abbrev pub invariant-loop : goal.invariant-loop
 invariant-loop g l =
-    IsSeatOf l.tree l.seat × IsBetween (view_of l.seat) l.splits × AreOwnSerialsBelow l.serial (view_of l.seat) × Grows (view_of l.initial.seat) (view_of l.seat)
+    IsSeatOf l.tree l.seat × IsBetween (view_of l.seat) l.splits
+    × AreOwnSerialsBelow l.serial (view_of l.seat)
+    × Grows (view_of l.initial.seat) (view_of l.seat)
     × SplitsOwnAt (MayAnswer g.F.Fn l.rule.closure) (view_of l.seat)
