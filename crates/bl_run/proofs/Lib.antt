@@ -1,5 +1,5 @@
-pub mod Answered
-pub mod Splitting
-pub mod Making
-pub mod Units
-pub mod Replies
+mod Answered
+mod Splitting
+mod Making
+mod Units
+mod Replies

@@ -18,7 +18,8 @@ use Rattle.bl_search.specs.Places.{IsPlaced, MayAnswer, PutsAt, SplitsAt}
 use Rattle.bl_run.specs.Splitting.{IsSplitBy}
 
 -- what is allowed by P is allowed by Q
-module _ (P Q : Desc Cut → Place → Type 0) (also : (d : Desc Cut) (place : Place) → P d place → Q d place) where
+module _ (P Q : Desc Cut → Place → Type 0) (also : (d : Desc Cut) (place : Place) → P d place
+    → Q d place) where
   placed_by : (d : Desc Cut) (next : Step) → IsPlaced P d next → IsPlaced Q d next
   placed_by d Shut h = tt
   placed_by d (Split common column at) h = also _ _ h
@@ -36,12 +37,21 @@ module _ (P Q : Desc Cut → Place → Type 0) (also : (d : Desc Cut) (place : P
 
 module _ {F : Type 0} (g : Calls F) (closure : F) where
   -- a rule that answers the middle of the widest column splits there
-  pub half_places : ((d : Bor (Desc Cut)) (x : Bor (List Fixed)) (place : Place) → g.post closure (d, (x, tt)) place → IsHalf d.now place) → (p : Program) (past : List Entry)
+  pub half_places : ((d : Bor (Desc Cut)) (x : Bor (List Fixed)) (place : Place)
+      → g.post closure (d, (x, tt)) place → IsHalf d.now place) → (p : Program) (past : List Entry)
       → SplitsAt (MayAnswer g closure) p past → SplitsAt (IsSplitBy true) p past
-  half_places says = splits_also (MayAnswer g closure) (IsSplitBy true) (λ d place h. subst (λ (f : Desc Cut). IsHalf f place) h.1.shows_desc (says h.1.desc h.1.point place h.1.says.met))
+  half_places says = splits_also (MayAnswer g closure) (IsSplitBy true)
+      (λ d place h. subst (λ (f : Desc Cut). IsHalf f place) h.1.shows_desc
+      (says h.1.desc h.1.point place h.1.says.met))
 
   -- and one that answers by the fractions of a point, at such a place
-  pub fraction_places : ((d : Bor (Desc Cut)) (x : Bor (List Fixed)) (place : Place) → g.post closure (d, (x, tt)) place → IsMostFractional d.now x.now place) → (p : Program) (past : List Entry)
+  pub fraction_places : ((d : Bor (Desc Cut)) (x : Bor (List Fixed)) (place : Place)
+      → g.post closure (d, (x, tt)) place → IsMostFractional d.now x.now place)
+      → (p : Program) (past : List Entry)
       → SplitsAt (MayAnswer g closure) p past → SplitsAt (IsSplitBy false) p past
   fraction_places says = splits_also (MayAnswer g closure) (IsSplitBy false)
-      (λ d place h. (h.1.point.now, subst (λ (f : Desc Cut). IsMostFractional f h.1.point.now place) h.1.shows_desc (says h.1.desc h.1.point place h.1.says.met)))
+      (λ d place h. (
+        h.1.point.now,
+        subst (λ (f : Desc Cut). IsMostFractional f h.1.point.now place)
+            h.1.shows_desc (says h.1.desc h.1.point place h.1.says.met),
+      ))

@@ -1,10 +1,11 @@
 -- What a run did: each status has its cause.
-use Rattle.std.specs.Prelude.{◌≡◌, ◌⊎◌, ◌+◌, ◌*◌, ◌^◌, ◌++◌, ℕ, pos, Bool, List, [], Some, None, Ok, Err, true, false, is_some, map, reverse, string_bytes}
+use Rattle.std.specs.Prelude.{◌≡◌, ◌⊎◌, ◌+◌, ◌*◌, ◌^◌, ◌++◌, ℕ, pos, Bool, List, [], Some, None}
+use Rattle.std.specs.Prelude.{Ok, Err, true, false, is_some, map, reverse, string_bytes}
 use Rattle.std.specs.declared.option.Option.{Option}
 use Rattle.std.specs.declared.alloc.Global.{Global}
 use Rattle.std.specs.declared.string.String.{String}
 use Rattle.std.specs.Io.KnownBytes.{Appends}
-use Rattle.bl_io.specs.Streams.{IsWhole, Takes, ReadsWithin, AppendsPrefix}
+use Rattle.bl_io.specs.Streams.{IsReadToEnd, Takes, ReadsWithin, AppendsPrefix}
 use Rattle.bl_io.specs.Causes.{Rose}
 use Rattle.bl_run.specs.declared.top.TheConstants.{MOST_BYTES}
 use Rattle.bl_problem.specs.Program.{Program}
@@ -54,7 +55,7 @@ workers_of false workers = workers
 -- the source was read to its end, and its bytes mean this problem
 pub record IsRead (before now : Option (List ℕ)) (problem : Program) : Type 0 where
   pub bytes : List ℕ
-  pub whole : IsWhole before now MOST_BYTES bytes
+  pub whole : IsReadToEnd before now MOST_BYTES bytes
   pub reads : read_of bytes ≡ Ok problem
 
 -- the problem to be solved: the one that the source gives, or else the one that is made
@@ -62,16 +63,24 @@ abbrev pub IsGiven : Option GenWish → Option (List ℕ) → Option (List ℕ) 
 IsGiven None before now problem = IsRead before now problem
 IsGiven (Some sizes) before now problem = problem ≡ made sizes.start sizes.columns sizes.rows
 
--- the settings of the wish for a problem: its gap, a number of whole units, in the units of the problem's values
+-- the settings of the wish for a problem: its gap, a number of whole units, in the units of the
+-- problem's values
 abbrev pub settings_for : Wish → Program → Settings
-settings_for w p = record { nodes = w.settings.nodes; span = w.settings.span; order = w.settings.order; gap = pos (w.gap * 10 ^ p.scale) }
+settings_for w p = record {
+  nodes = w.settings.nodes;
+  span = w.settings.span;
+  order =
+      w.settings.order;
+  gap = pos (w.gap * 10 ^ p.scale);
+}
 
 -- the answer to a problem that was made has no lines of columns
 abbrev pub shows_columns : Option GenWish → Bool
 shows_columns None = true
 shows_columns (Some sizes) = false
 
--- what a log tells before the answer: the journal's lines, and how many entries the stored pieces have
+-- what a log tells before the answer: the journal's lines, and how many entries the stored
+-- pieces have
 abbrev pub log_lines : Bool → List Entry → ℕ → List ℕ
 log_lines false history held = []
 log_lines true history held = text_of history ++ held_line held
@@ -82,29 +91,35 @@ run_text w p history =
     log_lines w.log history (held_of p (settings_for w p) (reverse history))
     ++ verdict_text p (shows_columns w.generate) (answer_of p (settings_for w p) (reverse history))
 
--- the words are accepted and a problem is given; a search of its tree by the wish has ended, each split is where the wish
--- says, and the text is that of the search's answer, which is true
-pub record IsAnswered (alone : Bool) (words : List (String Global)) (before now : Option (List ℕ)) (limited : Bool) (history : List Entry) (text : List ℕ) : Type 0 where
+-- the words are accepted and a problem is given; a search of its tree by the wish has ended,
+-- each split is where the wish says, and the text is that of the search's answer, which is true
+pub record IsAnswered (alone : Bool) (words : List (String Global)) (before now : Option (List ℕ))
+    (limited : Bool) (history : List Entry) (text : List ℕ) : Type 0 where
   pub wish : Wish
   pub meant : AskFor alone words wish
   pub solves : wish.write ≡ false
   pub problem : Program
   pub given : IsGiven wish.generate before now problem
-  pub ended : IsEndedHistory problem (settings_for wish problem) (workers_of alone wish.workers) limited history
+  pub ended : IsEndedHistory problem (settings_for wish problem) (workers_of alone wish.workers)
+      limited history
   pub places : SplitsAt (IsSplitBy wish.half) problem (reverse history)
   pub is_true : IsTrueFor problem (answer_of problem (settings_for wish problem) (reverse history))
   pub is : text ≡ run_text wish problem history
 
--- a search of the problem's tree by the wish has ended, each split is where the wish says, and the text is that of the
--- search's answer, which is true
-pub record IsSolved (workers : ℕ) (problem : Program) (wish : Wish) (answered : Answered) : Type 0 where
-  pub ended : IsEndedHistory problem (settings_for wish problem) workers answered.limited answered.journal.entries
-  pub places : SplitsAt (IsSplitBy wish.half) problem (reverse answered.journal.entries)
-  pub is_true : IsTrueFor problem (answer_of problem (settings_for wish problem) (reverse answered.journal.entries))
-  pub is : answered.text.items ≡ run_text wish problem answered.journal.entries
+-- a search of the problem's tree by the wish has ended, each split is where the wish says, and
+-- the text is that of the search's answer, which is true
+pub record IsSolved (workers : ℕ) (problem : Program) (wish : Wish) (answered : Answered) : Type 0
+  where
+    pub ended : IsEndedHistory problem (settings_for wish problem) workers answered.limited
+        answered.journal.entries
+    pub places : SplitsAt (IsSplitBy wish.half) problem (reverse answered.journal.entries)
+    pub is_true : IsTrueFor problem
+        (answer_of problem (settings_for wish problem) (reverse answered.journal.entries))
+    pub is : answered.text.items ≡ run_text wish problem answered.journal.entries
 
 -- the words are accepted, a problem is given, and it is to be written: this is its text
-pub record IsModelText (alone : Bool) (words : List (String Global)) (before now : Option (List ℕ)) (text : List ℕ) : Type 0 where
+pub record IsModelText (alone : Bool) (words : List (String Global))
+    (before now : Option (List ℕ)) (text : List ℕ) : Type 0 where
   pub wish : Wish
   pub meant : AskFor alone words wish
   pub writes : wish.write ≡ true
@@ -113,8 +128,10 @@ pub record IsModelText (alone : Bool) (words : List (String Global)) (before now
   pub is : text ≡ written problem
 
 -- what is to be written: the text of a search's answer, or of the problem
-abbrev pub IsReply : Bool → List (String Global) → Option (List ℕ) → Option (List ℕ) → Reply → Type 0
-IsReply alone words before now (Answer a) = IsAnswered alone words before now a.limited a.journal.entries a.text.items
+abbrev pub IsReply : Bool → List (String Global) → Option (List ℕ) → Option (List ℕ) → Reply
+    → Type 0
+IsReply alone words before now (Answer a) =
+    IsAnswered alone words before now a.limited a.journal.entries a.text.items
 IsReply alone words before now (ModelText text) = IsModelText alone words before now text.items
 
 -- the text of this problem is to be written
@@ -125,18 +142,20 @@ IsModelOf problem (ModelText text) = text.items ≡ written problem
 -- the source was read to its end, its bytes have a fault, and the line tells the first one
 pub record IsRefused (before now : Option (List ℕ)) (line : List ℕ) : Type 0 where
   pub bytes : List ℕ
-  pub whole : IsWhole before now MOST_BYTES bytes
+  pub whole : IsReadToEnd before now MOST_BYTES bytes
   pub fault : Fault
   pub reads : read_of bytes ≡ Err fault
   pub tells : line ≡ model_line fault
 
--- one byte past the limit was read, or all the bytes, and they mean no problem; and the line tells it
+-- one byte past the limit was read, or all the bytes, and they mean no problem; and the line
+-- tells it
 pub data IsUnreadable (before now : Option (List ℕ)) (line : List ℕ) : Type 0 where
   is_too_long : Takes before now (MOST_BYTES + 1) → line ≡ long_line → IsUnreadable before now line
   is_refused : IsRefused before now line → IsUnreadable before now line
 
 -- the answer was written whole, and the journal is that of the search
-pub record WritesAnswer (alone : Bool) (words : List (String Global)) (limited : Bool) (journal : Option Kept) (left left' kept kept' : Option (List ℕ)) : Type 0 where
+pub record WritesAnswer (alone : Bool) (words : List (String Global)) (limited : Bool)
+    (journal : Option Kept) (left left' kept kept' : Option (List ℕ)) : Type 0 where
   pub stands : Kept
   pub journal_is : journal ≡ Some stands
   pub text : List ℕ
@@ -144,7 +163,8 @@ pub record WritesAnswer (alone : Bool) (words : List (String Global)) (limited :
   pub written : Appends kept kept' text
 
 -- a prefix of the answer was written, and the journal is that of the search
-pub record WritesPart (alone : Bool) (words : List (String Global)) (journal : Option Kept) (left left' kept kept' : Option (List ℕ)) : Type 0 where
+pub record WritesPart (alone : Bool) (words : List (String Global)) (journal : Option Kept)
+    (left left' kept kept' : Option (List ℕ)) : Type 0 where
   pub limited : Bool
   pub stands : Kept
   pub journal_is : journal ≡ Some stands
@@ -153,23 +173,26 @@ pub record WritesPart (alone : Bool) (words : List (String Global)) (journal : O
   pub written : AppendsPrefix kept kept' text
 
 -- the text of the problem was written whole, and nothing was searched
-pub record WritesModel (alone : Bool) (words : List (String Global)) (journal : Option Kept) (left left' kept kept' : Option (List ℕ)) : Type 0 where
+pub record WritesModel (alone : Bool) (words : List (String Global)) (journal : Option Kept)
+    (left left' kept kept' : Option (List ℕ)) : Type 0 where
   pub no_journal : journal ≡ None
   pub text : List ℕ
   pub model : IsModelText alone words left left' text
   pub written : Appends kept kept' text
 
 -- a prefix of it was written
-pub record WritesModelPart (alone : Bool) (words : List (String Global)) (journal : Option Kept) (left left' kept kept' : Option (List ℕ)) : Type 0 where
+pub record WritesModelPart (alone : Bool) (words : List (String Global)) (journal : Option Kept)
+    (left left' kept kept' : Option (List ℕ)) : Type 0 where
   pub no_journal : journal ≡ None
   pub text : List ℕ
   pub model : IsModelText alone words left left' text
   pub written : AppendsPrefix kept kept' text
 
 -- a prefix of the line was written, and the whole line unless the sink failed
-pub record WritesLine (kept kept' : Option (List ℕ)) (faults faults' : ℕ) (line : List ℕ) : Type 0 where
-  pub part : AppendsPrefix kept kept' line
-  pub whole : Appends kept kept' line ⊎ Rose faults faults'
+pub record WritesLine (kept kept' : Option (List ℕ)) (faults faults' : ℕ) (line : List ℕ) : Type 0
+  where
+    pub part : AppendsPrefix kept kept' line
+    pub whole : Appends kept kept' line ⊎ Rose faults faults'
 
 -- why a file was not read, and the line that tells it
 pub record TellsModel (left left' kept kept' : Option (List ℕ)) (faults faults' : ℕ) : Type 0 where
@@ -182,7 +205,8 @@ abbrev pub HasReason : Option (List ℕ) → Option (List ℕ) → ℕ → ℕ �
 HasReason left left' faults faults' Words = ReadsWithin left left' faults faults' MOST_BYTES
 HasReason left left' faults faults' TooLong = Takes left left' (MOST_BYTES + 1)
 HasReason left left' faults faults' (Model line what) =
-    ReadsWithin left left' faults faults' MOST_BYTES × IsRefused left left' (model_line (record { line = line; what = what }))
+    ReadsWithin left left' faults faults' MOST_BYTES
+    × IsRefused left left' (model_line (record { line = line; what = what }))
 HasReason left left' faults faults' Read = Rose faults faults'
 HasReason left left' faults faults' Memory = ReadsWithin left left' faults faults' MOST_BYTES
 

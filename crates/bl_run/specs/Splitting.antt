@@ -7,7 +7,8 @@ use Rattle.bl_branch.specs.declared.place.Place.{Place}
 use Rattle.bl_branch.specs.Fractions.{IsMostFractional}
 use Rattle.bl_branch.specs.Widest.{IsHalf}
 
--- in the middle of the first widest column; or else at the entry of some point whose fraction is nearest to one half
+-- in the middle of the first widest column; or else at the entry of some point whose fraction is
+-- nearest to one half
 abbrev pub IsSplitBy : Bool → Desc Cut → Place → Type 0
 IsSplitBy true d place = IsHalf d place
 IsSplitBy false d place = (point : List Fixed) × IsMostFractional d point place

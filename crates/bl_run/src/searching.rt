@@ -3,7 +3,8 @@ ghost use Rattle.std.specs.Prelude.{◌≡◌, ◌≤◌, ◌≤ℤ◌, IfOk, po
 ghost use Rattle.bl_branch.specs.Fractions.{IsMostFractional};
 ghost use Rattle.bl_branch.specs.Rules.{IsSplittable, Splits};
 ghost use Rattle.bl_branch.specs.Widest.{IsHalf};
-ghost use Rattle.bl_journal.specs.declared.settings.TheConstants.{LARGEST_GAP};
+ghost use Rattle.bl_journal.specs.declared.limits.TheConstants.{LARGEST_GAP, MOST_NODES};
+ghost use Rattle.bl_journal.specs.declared.limits.TheConstants.{MOST_SPAN, MOST_WORKERS};
 ghost use Rattle.bl_run.specs.Splitting.{IsSplitBy};
 ghost use Rattle.bl_search.specs.Places.{SplitsAt};
 ghost use Rattle.bl_search.specs.Searches.{IsSearched};
@@ -39,7 +40,8 @@ fn by_half(desc: &Desc<Cut>, point: &[Fixed]) -> Place
     half(desc, point)
 }
 
-// The search by seat 0 with cuts of these kinds, where each split is in the middle or else by a fraction.
+// The search by seat 0 with cuts of these kinds, where each split is in the middle or else by a
+// fraction.
 pub fn search_one(
     alloc: Global,
     problem: &Arc<Problem>,
@@ -47,13 +49,14 @@ pub fn search_one(
     cuts: CutKinds,
     in_middle: bool,
 ) -> Result<EndedSearch, AllocError>
-    requires nodes { settings.nodes ≤ 100000 }
+    requires nodes { settings.nodes ≤ MOST_NODES }
     requires some_span { 1 ≤ settings.span }
-    requires few_spans { settings.span ≤ 64 }
+    requires few_spans { settings.span ≤ MOST_SPAN }
     requires some_gap { pos 0 ≤ℤ settings.gap }
     requires few_gaps { settings.gap ≤ℤ LARGEST_GAP }
     ensures searched { IfOk result (λ search. IsSearched problem.now.value settings 0 search) }
-    ensures places { IfOk result (λ search. SplitsAt (IsSplitBy in_middle) problem.now.value (past_of search.tree)) }
+    ensures places { IfOk result (λ search. SplitsAt (IsSplitBy in_middle) problem.now.value
+        (past_of search.tree)) }
 {
     let separator = KindSeparator::new(cuts);
     if in_middle {
@@ -65,8 +68,8 @@ pub fn search_one(
     }
 }
 
-// The search by so many workers with cuts of these kinds, where each split is in the middle or else by
-// a fraction.
+// The search by so many workers with cuts of these kinds, where each split is in the middle or
+// else by a fraction.
 pub fn search_many<R: Threads + Wait + Sync, G: Gate>(
     rt: &R,
     alloc: Global,
@@ -78,14 +81,16 @@ pub fn search_many<R: Threads + Wait + Sync, G: Gate>(
     gate: &G,
 ) -> Result<EndedSearch, AllocError>
     requires some_workers { 1 ≤ workers }
-    requires few_workers { workers ≤ 64 }
-    requires nodes { settings.nodes ≤ 100000 }
+    requires few_workers { workers ≤ MOST_WORKERS }
+    requires nodes { settings.nodes ≤ MOST_NODES }
     requires some_span { 1 ≤ settings.span }
-    requires few_spans { settings.span ≤ 64 }
+    requires few_spans { settings.span ≤ MOST_SPAN }
     requires some_gap { pos 0 ≤ℤ settings.gap }
     requires few_gaps { settings.gap ≤ℤ LARGEST_GAP }
-    ensures searched { IfOk result (λ search. IsSearched problem.now.value settings workers search) }
-    ensures places { IfOk result (λ search. SplitsAt (IsSplitBy middle) problem.now.value (past_of search.tree)) }
+    ensures searched { IfOk result
+        (λ search. IsSearched problem.now.value settings workers search) }
+    ensures places { IfOk result
+        (λ search. SplitsAt (IsSplitBy middle) problem.now.value (past_of search.tree)) }
 {
     let separator = KindSeparator::new(cuts);
     if middle {

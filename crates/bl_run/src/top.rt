@@ -1,17 +1,24 @@
 //! The run of the program.
-ghost use Rattle.std.specs.Prelude.{◌≡◌, ◌≢◌, ◌+◌, ◌*◌, ◌^◌, ◌≤◌, ◌<◌, pos, ◌≤ℤ◌, ◌⊎◌, false, true, None, Some, length, is_some, IfOk, IfErr, IfSome, OnOk, OnErr, IsErrOf, ◌++◌};
+ghost use Rattle.std.specs.Prelude.{◌≡◌, ◌≢◌, ◌+◌, ◌*◌, ◌^◌, ◌≤◌, ◌<◌, pos, ◌≤ℤ◌, ◌⊎◌, false};
+ghost use Rattle.std.specs.Prelude.{true, None, Some, length, is_some, IfOk, IfErr, IfSome, OnOk};
+ghost use Rattle.std.specs.Prelude.{OnErr, IsErrOf, ◌++◌};
 ghost use Rattle.std.specs.Io.KnownBytes.{Appends};
 ghost use Rattle.bl_io.specs.Causes.{Rose, HasCause};
 ghost use Rattle.bl_io.specs.Streams.{AppendsPrefix, ReadsWithin};
-ghost use Rattle.bl_journal.specs.declared.settings.TheConstants.{LARGEST_GAP};
+ghost use Rattle.bl_journal.specs.declared.limits.TheConstants.{LARGEST_GAP};
 ghost use Rattle.bl_words.specs.Wishes.{AreSizes, IsWithinRanges};
+ghost use Rattle.bl_words.specs.declared.wish.TheConstants.{MOST_GAP};
 ghost use Rattle.bl_report.specs.Texts.{fault_line, model_line};
 ghost use Rattle.bl_run.specs.declared.top.TheConstants.{MOST_BYTES};
 ghost use Rattle.bl_run.specs.Splitting.{IsSplitBy};
 ghost use Rattle.bl_search.specs.Places.{SplitsAt};
 ghost use Rattle.bl_search.specs.Searches.{IsSearched};
 ghost use Rattle.bl_tree.specs.Views.{past_of};
-ghost use Rattle.bl_run.specs.Runs.{AskFor, AskToMake, IsEarly, IsGiven, IsModelOf, IsRead, IsReply, IsSolved, HasReason, MeanNothing, log_lines, settings_for, TellsModel, WritesAnswer, WritesModel, WritesModelPart, WritesPart, WritesLine, shows_columns, words_status};
+ghost use Rattle.bl_run.specs.Runs.{AskFor, AskToMake, IsEarly, IsGiven, IsModelOf, IsRead};
+ghost use Rattle.bl_run.specs.Runs.{IsReply, IsSolved, HasReason, MeanNothing, log_lines};
+ghost use Rattle.bl_run.specs.Runs.{settings_for, TellsModel, WritesAnswer, WritesModel};
+ghost use Rattle.bl_run.specs.Runs.{WritesModelPart, WritesPart, WritesLine, shows_columns};
+ghost use Rattle.bl_run.specs.Runs.{words_status};
 
 use crate::searching::{search_many, search_one};
 use bl_gen::make;
@@ -41,8 +48,8 @@ pub struct Ended {
 /// A model has at most so many bytes.
 pub const MOST_BYTES: usize = 8_388_608;
 
-/// Does all that the program of many threads does: as many workers search the tree as the words say,
-/// each in a thread where one can be had, and each passes the gate.
+/// Does all that the program of many threads does: as many workers search the tree as the words
+/// say, each in a thread where one can be had, and each passes the gate.
 pub fn run<R: Threads + Wait + Sync, S: Source, K: Sink, G: Gate>(
     rt: &R,
     alloc: Global,
@@ -51,31 +58,49 @@ pub fn run<R: Threads + Wait + Sync, S: Source, K: Sink, G: Gate>(
     sink: &mut K,
     gate: &G,
 ) -> Ended
-    // 0: the search has ended with no live node, the written bytes are its final answer, with `--log` behind its log, and nothing failed. Here and at 1 and 5 no node may be freed, and each seat has stored its nodes anew in time. With `--write` nothing is searched, and the written bytes are the text of the problem.
-    ensures decided { result.status ≡ 0 → WritesAnswer false words.now false result.journal (S.left source.old) (S.left source.new) (K.kept sink.old) (K.kept sink.new)
-        ⊎ WritesModel false words.now result.journal (S.left source.old) (S.left source.new) (K.kept sink.old) (K.kept sink.new) }
-    // 1: the budget is spent and a live node waits; the written bytes are the bound and the best point found, with `--log` behind the log, and nothing failed.
-    ensures limited { result.status ≡ 1 → WritesAnswer false words.now true result.journal (S.left source.old) (S.left source.new) (K.kept sink.old) (K.kept sink.new) }
+    // 0: the search has ended with no live node, the written bytes are its final answer, with
+    // `--log` behind its log, and nothing failed. Here and at 1 and 5 no node may be freed, and
+    // each seat has stored its nodes anew in time. With `--write` nothing is searched, and the
+    // written bytes are the text of the problem.
+    ensures decided { result.status ≡ 0 → WritesAnswer false words.now false result.journal
+        (S.left source.old) (S.left source.new) (K.kept sink.old) (K.kept sink.new)
+        ⊎ WritesModel false words.now result.journal (S.left source.old) (S.left source.new)
+        (K.kept sink.old) (K.kept sink.new) }
+    // 1: the budget is spent and a live node waits; the written bytes are the bound and the best
+    // point found, with `--log` behind the log, and nothing failed.
+    ensures limited { result.status ≡ 1 → WritesAnswer false words.now true result.journal
+        (S.left source.old) (S.left source.new) (K.kept sink.old) (K.kept sink.new) }
     ensures no_fault { result.status ≤ 1 → K.faults sink.new ≡ K.faults sink.old }
     // But for 3 and 4 the source didn't fail, and no more was taken than may be read.
-    ensures within { result.status ≢ 3 → result.status ≢ 4 → ReadsWithin (S.left source.old) (S.left source.new) (S.faults source.old) (S.faults source.new) 8388608 }
+    ensures within { result.status ≢ 3 → result.status ≢ 4
+        → ReadsWithin (S.left source.old) (S.left source.new) (S.faults source.old)
+        (S.faults source.new) MOST_BYTES }
     // 2: exactly where the words mean nothing, but for 6. The source is then untouched.
     ensures words { result.status ≡ 2 → MeanNothing false words.now }
     ensures refused { MeanNothing false words.now → (result.status ≡ 2) ⊎ (result.status ≡ 6) }
     ensures unread { MeanNothing false words.now → source.new ≡ source.old }
-    // Where a problem is to be made, the source is untouched at every status, and 3 and 4 do not come.
-    ensures made { AskToMake false words.now → (source.new ≡ source.old) × (result.status ≢ 3) × (result.status ≢ 4) }
-    // 3: what was read is too long or has a fault, and the line tells it. At 0, 1 and 5 it means a problem, so 3 comes exactly there, but for 4 and 6.
-    ensures model { result.status ≡ 3 → TellsModel (S.left source.old) (S.left source.new) (K.kept sink.old) (K.kept sink.new) (K.faults sink.old) (K.faults sink.new) }
+    // Where a problem is to be made, the source is untouched at every status, and 3 and 4 do not
+    // come.
+    ensures made { AskToMake false words.now → (source.new ≡ source.old) × (result.status ≢ 3)
+        × (result.status ≢ 4) }
+    // 3: what was read is too long or has a fault, and the line tells it. At 0, 1 and 5 it means
+    // a problem, so 3 comes exactly there, but for 4 and 6.
+    ensures model { result.status ≡ 3 → TellsModel (S.left source.old) (S.left source.new)
+        (K.kept sink.old) (K.kept sink.new) (K.faults sink.old) (K.faults sink.new) }
     // 4: the source failed.
     ensures read { result.status ≡ 4 → Rose (S.faults source.old) (S.faults source.new) }
-    // 5: the sink failed after the search had ended, and a prefix of the answer stands; with `--write`, of the problem's text.
+    // 5: the sink failed after the search had ended, and a prefix of the answer stands; with
+    // `--write`, of the problem's text.
     ensures write { result.status ≡ 5 → Rose (K.faults sink.old) (K.faults sink.new) }
-    ensures part { result.status ≡ 5 → WritesPart false words.now result.journal (S.left source.old) (S.left source.new) (K.kept sink.old) (K.kept sink.new)
-        ⊎ WritesModelPart false words.now result.journal (S.left source.old) (S.left source.new) (K.kept sink.old) (K.kept sink.new) }
-    // 2, 4 and 6, want of memory: a prefix of the fault's line stands, and all of it unless the sink failed.
+    ensures part { result.status ≡ 5 → WritesPart false words.now result.journal
+        (S.left source.old) (S.left source.new) (K.kept sink.old) (K.kept sink.new)
+        ⊎ WritesModelPart false words.now result.journal (S.left source.old) (S.left source.new)
+        (K.kept sink.old) (K.kept sink.new) }
+    // 2, 4 and 6, want of memory: a prefix of the fault's line stands, and all of it unless the
+    // sink failed.
     ensures line { 1 < result.status → result.status ≢ 3 → result.status ≢ 5
-        → WritesLine (K.kept sink.old) (K.kept sink.new) (K.faults sink.old) (K.faults sink.new) (fault_line result.status) }
+        → WritesLine (K.kept sink.old) (K.kept sink.new) (K.faults sink.old) (K.faults sink.new)
+        (fault_line result.status) }
     ensures no_journal { 1 < result.status → result.status ≢ 5 → result.journal ≡ None }
     ensures others { result.status ≤ 6 }
 {
@@ -97,31 +122,49 @@ pub fn run_one<S: Source, K: Sink>(
     source: &mut S,
     sink: &mut K,
 ) -> Ended
-    // 0: the search has ended with no live node, the written bytes are its final answer, with `--log` behind its log, and nothing failed. Here and at 1 and 5 no node may be freed, and seat 0 has stored its nodes anew in time. With `--write` nothing is searched, and the written bytes are the text of the problem.
-    ensures decided { result.status ≡ 0 → WritesAnswer true words.now false result.journal (S.left source.old) (S.left source.new) (K.kept sink.old) (K.kept sink.new)
-        ⊎ WritesModel true words.now result.journal (S.left source.old) (S.left source.new) (K.kept sink.old) (K.kept sink.new) }
-    // 1: the budget is spent and a live node waits; the written bytes are the bound and the best point found, with `--log` behind the log, and nothing failed.
-    ensures limited { result.status ≡ 1 → WritesAnswer true words.now true result.journal (S.left source.old) (S.left source.new) (K.kept sink.old) (K.kept sink.new) }
+    // 0: the search has ended with no live node, the written bytes are its final answer, with
+    // `--log` behind its log, and nothing failed. Here and at 1 and 5 no node may be freed, and
+    // seat 0 has stored its nodes anew in time. With `--write` nothing is searched, and the
+    // written bytes are the text of the problem.
+    ensures decided { result.status ≡ 0 → WritesAnswer true words.now false result.journal
+        (S.left source.old) (S.left source.new) (K.kept sink.old) (K.kept sink.new)
+        ⊎ WritesModel true words.now result.journal (S.left source.old) (S.left source.new)
+        (K.kept sink.old) (K.kept sink.new) }
+    // 1: the budget is spent and a live node waits; the written bytes are the bound and the best
+    // point found, with `--log` behind the log, and nothing failed.
+    ensures limited { result.status ≡ 1 → WritesAnswer true words.now true result.journal
+        (S.left source.old) (S.left source.new) (K.kept sink.old) (K.kept sink.new) }
     ensures no_fault { result.status ≤ 1 → K.faults sink.new ≡ K.faults sink.old }
     // But for 3 and 4 the source didn't fail, and no more was taken than may be read.
-    ensures within { result.status ≢ 3 → result.status ≢ 4 → ReadsWithin (S.left source.old) (S.left source.new) (S.faults source.old) (S.faults source.new) 8388608 }
+    ensures within { result.status ≢ 3 → result.status ≢ 4
+        → ReadsWithin (S.left source.old) (S.left source.new) (S.faults source.old)
+        (S.faults source.new) MOST_BYTES }
     // 2: exactly where the words mean nothing, but for 6. The source is then untouched.
     ensures words { result.status ≡ 2 → MeanNothing true words.now }
     ensures refused { MeanNothing true words.now → (result.status ≡ 2) ⊎ (result.status ≡ 6) }
     ensures unread { MeanNothing true words.now → source.new ≡ source.old }
-    // Where a problem is to be made, the source is untouched at every status, and 3 and 4 do not come.
-    ensures made { AskToMake true words.now → (source.new ≡ source.old) × (result.status ≢ 3) × (result.status ≢ 4) }
-    // 3: what was read is too long or has a fault, and the line tells it. At 0, 1 and 5 it means a problem, so 3 comes exactly there, but for 4 and 6.
-    ensures model { result.status ≡ 3 → TellsModel (S.left source.old) (S.left source.new) (K.kept sink.old) (K.kept sink.new) (K.faults sink.old) (K.faults sink.new) }
+    // Where a problem is to be made, the source is untouched at every status, and 3 and 4 do not
+    // come.
+    ensures made { AskToMake true words.now → (source.new ≡ source.old) × (result.status ≢ 3)
+        × (result.status ≢ 4) }
+    // 3: what was read is too long or has a fault, and the line tells it. At 0, 1 and 5 it means
+    // a problem, so 3 comes exactly there, but for 4 and 6.
+    ensures model { result.status ≡ 3 → TellsModel (S.left source.old) (S.left source.new)
+        (K.kept sink.old) (K.kept sink.new) (K.faults sink.old) (K.faults sink.new) }
     // 4: the source failed.
     ensures read { result.status ≡ 4 → Rose (S.faults source.old) (S.faults source.new) }
-    // 5: the sink failed after the search had ended, and a prefix of the answer stands; with `--write`, of the problem's text.
+    // 5: the sink failed after the search had ended, and a prefix of the answer stands; with
+    // `--write`, of the problem's text.
     ensures write { result.status ≡ 5 → Rose (K.faults sink.old) (K.faults sink.new) }
-    ensures part { result.status ≡ 5 → WritesPart true words.now result.journal (S.left source.old) (S.left source.new) (K.kept sink.old) (K.kept sink.new)
-        ⊎ WritesModelPart true words.now result.journal (S.left source.old) (S.left source.new) (K.kept sink.old) (K.kept sink.new) }
-    // 2, 4 and 6, want of memory: a prefix of the fault's line stands, and all of it unless the sink failed.
+    ensures part { result.status ≡ 5 → WritesPart true words.now result.journal
+        (S.left source.old) (S.left source.new) (K.kept sink.old) (K.kept sink.new)
+        ⊎ WritesModelPart true words.now result.journal (S.left source.old) (S.left source.new)
+        (K.kept sink.old) (K.kept sink.new) }
+    // 2, 4 and 6, want of memory: a prefix of the fault's line stands, and all of it unless the
+    // sink failed.
     ensures line { 1 < result.status → result.status ≢ 3 → result.status ≢ 5
-        → WritesLine (K.kept sink.old) (K.kept sink.new) (K.faults sink.old) (K.faults sink.new) (fault_line result.status) }
+        → WritesLine (K.kept sink.old) (K.kept sink.new) (K.faults sink.old) (K.faults sink.new)
+        (fault_line result.status) }
     ensures no_journal { 1 < result.status → result.status ≢ 5 → result.journal ≡ None }
     ensures others { result.status ≤ 6 }
 {
@@ -169,10 +212,13 @@ enum Stop {
 
 // The problem that the source gives.
 fn read_problem<S: Source>(alloc: Global, source: &mut S) -> Result<Problem, Stop>
-    ensures problem { IfOk result (λ problem. IsRead (S.left source.old) (S.left source.new) problem) }
-    ensures within { OnOk result (ReadsWithin (S.left source.old) (S.left source.new) (S.faults source.old) (S.faults source.new) MOST_BYTES) }
+    ensures problem { IfOk result
+        (λ problem. IsRead (S.left source.old) (S.left source.new) problem) }
+    ensures within { OnOk result (ReadsWithin (S.left source.old) (S.left source.new)
+        (S.faults source.old) (S.faults source.new) MOST_BYTES) }
     ensures words { IfErr result (λ e. e ≢ Stop.Words) }
-    ensures cause { IfErr result (HasReason (S.left source.old) (S.left source.new) (S.faults source.old) (S.faults source.new)) }
+    ensures cause { IfErr result (HasReason (S.left source.old) (S.left source.new)
+        (S.faults source.old) (S.faults source.new)) }
 {
     let bytes = match read_all(alloc, source, MOST_BYTES) {
         Ok(bytes) => bytes,
@@ -187,17 +233,21 @@ fn read_problem<S: Source>(alloc: Global, source: &mut S) -> Result<Problem, Sto
     }
 }
 
-// The problem that is to be solved: the one made from a number, or else the one that the source gives.
+// The problem that is to be solved: the one made from a number, or else the one that the source
+// gives.
 fn given_problem<S: Source>(
     alloc: Global,
     generate: Option<GenWish>,
     source: &mut S,
 ) -> Result<Problem, Stop>
     requires { IfSome generate AreSizes }
-    ensures problem { IfOk result (λ problem. IsGiven generate (S.left source.old) (S.left source.new) problem) }
-    ensures within { OnOk result (ReadsWithin (S.left source.old) (S.left source.new) (S.faults source.old) (S.faults source.new) MOST_BYTES) }
+    ensures problem { IfOk result
+        (λ problem. IsGiven generate (S.left source.old) (S.left source.new) problem) }
+    ensures within { OnOk result (ReadsWithin (S.left source.old) (S.left source.new)
+        (S.faults source.old) (S.faults source.new) MOST_BYTES) }
     ensures words { IfErr result (λ e. e ≢ Stop.Words) }
-    ensures cause { IfErr result (HasReason (S.left source.old) (S.left source.new) (S.faults source.old) (S.faults source.new)) }
+    ensures cause { IfErr result (HasReason (S.left source.old) (S.left source.new)
+        (S.faults source.old) (S.faults source.new)) }
     ensures unread { is_some generate ≡ true → source.new ≡ source.old }
     ensures early { IfErr result (λ e. is_some generate ≡ true → IsEarly e) }
 {
@@ -226,7 +276,7 @@ fn has_columns(wish: &Wish) -> bool
 
 // A number of whole units, in units of 10^-scale.
 fn in_units(number: u32, scale: u32) -> u128
-    requires few { number ≤ 1000000000 }
+    requires few { number ≤ MOST_GAP }
     requires scale { scale ≤ 27 }
     ensures exact { result ≡ number * 10 ^ scale }
     ensures small { result ≤ 10 ^ 36 }
@@ -259,7 +309,8 @@ fn told(
     _workers: u32,
     search: EndedSearch,
 ) -> Result<Answered, AllocError>
-    requires searched { IsSearched problem.now.value (settings_for wish.now problem.now.value) _workers search }
+    requires searched { IsSearched problem.now.value (settings_for wish.now problem.now.value)
+        _workers search }
     requires places { SplitsAt (IsSplitBy wish.now.half) problem.now.value (past_of search.tree) }
     ensures { IfOk result (λ answered. IsSolved _workers problem.now.value wish.now answered) }
 {
@@ -284,7 +335,8 @@ fn with_log(
     held: u64,
     answer: Vec<u8>,
 ) -> Result<Vec<u8>, AllocError>
-    ensures { IfOk result (λ text. text.items ≡ log_lines log journal.now.entries held ++ answer.items) }
+    ensures { IfOk result (λ text. text.items ≡ log_lines log journal.now.entries held
+        ++ answer.items) }
 {
     if !log {
         return Ok(answer);
@@ -342,15 +394,18 @@ fn wish_of(alloc: Global, words: &[String], alone: bool) -> Result<Wish, Stop>
 
 // The answer of a search by seat 0 to what the words ask for, or the text of the problem.
 fn answer_one<S: Source>(alloc: Global, words: &[String], source: &mut S) -> Result<Reply, Stop>
-    ensures text { IfOk result (λ reply. IsReply true words.now (S.left source.old) (S.left source.new) reply) }
-    ensures within { OnOk result (ReadsWithin (S.left source.old) (S.left source.new) (S.faults source.old) (S.faults source.new) MOST_BYTES) }
+    ensures text { IfOk result (λ reply. IsReply true words.now (S.left source.old)
+        (S.left source.new) reply) }
+    ensures within { OnOk result (ReadsWithin (S.left source.old) (S.left source.new)
+        (S.faults source.old) (S.faults source.new) MOST_BYTES) }
     ensures words { IfErr result (λ e. e ≡ Stop.Words → MeanNothing true words.now) }
     ensures accepted { OnOk result (MeanNothing true words.now → ⊥) }
     ensures refused { IfErr result (λ e. MeanNothing true words.now → IsEarly e) }
     ensures unread { MeanNothing true words.now → source.new ≡ source.old }
     ensures untouched { AskToMake true words.now → source.new ≡ source.old }
     ensures made { IfErr result (λ e. AskToMake true words.now → IsEarly e) }
-    ensures cause { IfErr result (HasReason (S.left source.old) (S.left source.new) (S.faults source.old) (S.faults source.new)) }
+    ensures cause { IfErr result (HasReason (S.left source.old) (S.left source.new)
+        (S.faults source.old) (S.faults source.new)) }
 {
     words_mean_one_wish();
     let wish = wish_of(alloc, words, true)?;
@@ -372,15 +427,18 @@ fn answer_many<R: Threads + Wait + Sync, S: Source, G: Gate>(
     source: &mut S,
     gate: &G,
 ) -> Result<Reply, Stop>
-    ensures text { IfOk result (λ reply. IsReply false words.now (S.left source.old) (S.left source.new) reply) }
-    ensures within { OnOk result (ReadsWithin (S.left source.old) (S.left source.new) (S.faults source.old) (S.faults source.new) MOST_BYTES) }
+    ensures text { IfOk result (λ reply. IsReply false words.now (S.left source.old)
+        (S.left source.new) reply) }
+    ensures within { OnOk result (ReadsWithin (S.left source.old) (S.left source.new)
+        (S.faults source.old) (S.faults source.new) MOST_BYTES) }
     ensures words { IfErr result (λ e. e ≡ Stop.Words → MeanNothing false words.now) }
     ensures accepted { OnOk result (MeanNothing false words.now → ⊥) }
     ensures refused { IfErr result (λ e. MeanNothing false words.now → IsEarly e) }
     ensures unread { MeanNothing false words.now → source.new ≡ source.old }
     ensures untouched { AskToMake false words.now → source.new ≡ source.old }
     ensures made { IfErr result (λ e. AskToMake false words.now → IsEarly e) }
-    ensures cause { IfErr result (HasReason (S.left source.old) (S.left source.new) (S.faults source.old) (S.faults source.new)) }
+    ensures cause { IfErr result (HasReason (S.left source.old) (S.left source.new)
+        (S.faults source.old) (S.faults source.new)) }
 {
     words_mean_one_wish();
     let wish = wish_of(alloc, words, false)?;
@@ -410,9 +468,11 @@ fn answer_written<K: Sink>(sink: &mut K, answered: Answered) -> Ended
     ensures journal { result.journal ≡ Some answered.journal }
     ensures decided { result.status ≡ 0 → answered.limited ≡ false }
     ensures limited { result.status ≡ 1 → answered.limited ≡ true }
-    ensures whole { result.status ≤ 1 → Appends (K.kept sink.old) (K.kept sink.new) answered.text.items }
+    ensures whole { result.status ≤ 1 → Appends (K.kept sink.old) (K.kept sink.new)
+        answered.text.items }
     ensures no_fault { result.status ≤ 1 → K.faults sink.new ≡ K.faults sink.old }
-    ensures part { result.status ≡ 5 → AppendsPrefix (K.kept sink.old) (K.kept sink.new) answered.text.items }
+    ensures part { result.status ≡ 5 → AppendsPrefix (K.kept sink.old) (K.kept sink.new)
+        answered.text.items }
     ensures cause { result.status ≡ 5 → Rose (K.faults sink.old) (K.faults sink.new) }
     ensures others { (result.status ≤ 1) ⊎ (result.status ≡ 5) }
 {
@@ -450,11 +510,13 @@ fn model_written<K: Sink>(sink: &mut K, text: &[u8]) -> Ended
     }
 }
 
-/// Ends a run whose words can't be had, without reading: as one of wrong words, or for want of memory.
+/// Ends a run whose words can't be had, without reading: as one of wrong words, or for want of
+/// memory.
 pub fn end_without_words<K: Sink>(sink: &mut K, fault: WordsFault) -> Ended
     ensures status { result.status ≡ words_status fault }
     ensures journal { result.journal ≡ None }
-    ensures line { WritesLine (K.kept sink.old) (K.kept sink.new) (K.faults sink.old) (K.faults sink.new) (fault_line result.status) }
+    ensures line { WritesLine (K.kept sink.old) (K.kept sink.new) (K.faults sink.old)
+        (K.faults sink.new) (fault_line result.status) }
 {
     match fault {
         WordsFault::Refused => stopped(sink, 2, b"fault words\n"),
@@ -476,7 +538,8 @@ fn write_out<K: Sink>(sink: &mut K, text: &[u8]) -> Result<(), Failed>
 fn stopped<K: Sink>(sink: &mut K, status: u8, line: &[u8]) -> Ended
     ensures status { result.status ≡ status }
     ensures journal { result.journal ≡ None }
-    ensures line { WritesLine (K.kept sink.old) (K.kept sink.new) (K.faults sink.old) (K.faults sink.new) line.now }
+    ensures line { WritesLine (K.kept sink.old) (K.kept sink.new) (K.faults sink.old)
+        (K.faults sink.new) line.now }
 {
     let _ = write_out(sink, line);
     Ended {
@@ -490,8 +553,10 @@ fn refused<K: Sink>(alloc: Global, sink: &mut K, line: u32, what: What) -> Ended
     ensures journal { result.journal ≡ None }
     ensures status { (result.status ≡ 3) ⊎ (result.status ≡ 6) }
     ensures model { result.status ≡ 3
-        → WritesLine (K.kept sink.old) (K.kept sink.new) (K.faults sink.old) (K.faults sink.new) (model_line (record { line = line; what = what })) }
-    ensures memory { result.status ≡ 6 → WritesLine (K.kept sink.old) (K.kept sink.new) (K.faults sink.old) (K.faults sink.new) (fault_line 6) }
+        → WritesLine (K.kept sink.old) (K.kept sink.new) (K.faults sink.old) (K.faults sink.new)
+        (model_line (record { line = line; what = what })) }
+    ensures memory { result.status ≡ 6 → WritesLine (K.kept sink.old) (K.kept sink.new)
+        (K.faults sink.old) (K.faults sink.new) (fault_line 6) }
 {
     match model_line(alloc, line, what) {
         Ok(text) => stopped(sink, 3, &text),

@@ -1,4 +1,5 @@
-//! Program: reads a problem on standard input, searches its tree by workers in threads, and writes its answer to standard output.
+//! Program: reads a problem on standard input, searches its tree by workers in threads, and
+//! writes its answer to standard output.
 #![tactic(auto)]
 
 use bl_io::{StdSink, StdSource};

@@ -13,4 +13,5 @@ overflow_mul-result c =
 
 pub returns-clause-small : goal.returns-clause-small
 returns-clause-small c =
-    rw (c.from.ensures, c.pow.ensures) (units-small c.args.number c.args.scale c.requires.few c.requires.scale)
+    rw (c.from.ensures, c.pow.ensures)
+    (units-small c.args.number c.args.scale c.requires.few c.requires.scale)

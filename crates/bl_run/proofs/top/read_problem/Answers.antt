@@ -10,7 +10,8 @@ use Rattle.bl_run.proofs.top.read_problem.Goals as goal
 pub returns-in-Err-At-clause-cause : goal.returns-in-Err-At-clause-cause
 returns-in-Err-At-clause-cause g c =
     let told : Reads (Err (At c.in-Err-At.line c.in-Err-At.what)) (read_of c.deref.result.now) =
-    subst (λ (r : Result Program ModelFault). Reads r (read_of c.deref.result.now)) (c.in-Err-At.is ∙ ap Err c.in-Err-At.field-0-is) c.read.ensures in (
+    subst (λ (r : Result Program ModelFault). Reads r (read_of c.deref.result.now))
+    (c.in-Err-At.is ∙ ap Err c.in-Err-At.field-0-is) c.read.ensures in (
       c.in-Ok.ensures.within,
       record {
         bytes = c.in-Ok.bytes.items;
