@@ -1,3 +1,3 @@
-pub mod Covering
-pub mod PointBoxes
-pub mod Hopeless
+mod Covering
+mod PointBoxes
+mod Hopeless

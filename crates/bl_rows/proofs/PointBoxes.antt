@@ -1,5 +1,6 @@
 -- Boxes of two columns.
-use Rattle.std.proofs.Common.{◌≡◌, ℕ, zero, suc, ◌<◌, ℤ, ◌≤ℤ◌, List, [], ◌∷◌, length, arith, Bool, true, false, IsTrue, int_lt, refl}
+use Rattle.std.proofs.Common.{◌≡◌, ℕ, zero, suc, ◌<◌, ℤ, ◌≤ℤ◌, List, [], ◌∷◌, length, arith, Bool}
+use Rattle.std.proofs.Common.{true, false, IsTrue, int_lt, refl}
 use Rattle.std.proofs.lemmas.Int.{ints}
 use Rattle.bl_num.specs.Exact.{at}
 use Rattle.bl_branch.specs.Rules.{HasTwoPoints}
@@ -20,8 +21,20 @@ two (a ∷ b ∷ []) (c ∷ d ∷ []) h = by (int_lt a c) refl
     each (suc (suc j)) l = absurd (omega (arith, l))
 
     by : (t : Bool) → int_lt a c ≡ t → HasTwoPoints (a ∷ b ∷ []) (c ∷ d ∷ [])
-    by true e = record { each = each; column = 0; column_in = omega arith; apart = omega (arith, ints, e) }
-    by false e = record { each = each; column = 1; column_in = omega arith; apart = grind (arith, ints) }
+    by true e = record {
+      each = each;
+      column = 0;
+      column_in = omega arith;
+      apart =
+          omega (arith, ints, e);
+    }
+    by false e = record {
+      each = each;
+      column = 1;
+      column_in = omega arith;
+      apart =
+          grind (arith, ints);
+    }
 
 -- two lows and two highs
 pub record ArePairs (lows highs : List ℤ) : Type 0 where

@@ -35,7 +35,15 @@ never = record { name = 82 ∷ []; terms = []; low = Some (pos 1); high = None }
 -- two columns from 0 to `high`, and a row that no point meets
 abbrev pub hopeless : ℤ → Program
 hopeless high =
-    record { columns = column 88 high ∷ column 89 high ∷ []; rows = never ∷ []; objective = 67 ∷ []; scale = 0; offset = pos 0; sense = Min }
+    record {
+      columns = column 88 high ∷ column 89 high ∷ [];
+      rows = never ∷ [];
+      objective =
+          67 ∷ [];
+      scale = 0;
+      offset = pos 0;
+      sense = Min;
+    }
 
 -- the children of a node of this description, in this form
 abbrev pub ArePieces : Desc Cut → Form → Next → Type 0
@@ -46,16 +54,22 @@ ArePieces d form (Split common column at left right) =
 
 -- an outcome that may be put for a node of this description, whatever the cutoff
 pub record IsOutcome (d : Desc Cut) (form : Form) (o : Outcome) : Type 0 where
-  pub sound : (high : ℤ) (cutoff : Option ℤ) → IsSound (hopeless high) d cutoff o.found o.low (step_of o.next)
+  pub sound : (high : ℤ) (cutoff : Option ℤ) → IsSound (hopeless high) d cutoff o.found o.low
+      (step_of o.next)
   pub no_cuts : added_by_step (step_of o.next) ≡ []
   pub pieces : ArePieces d form o.next
 
 -- the tree's problem and settings
 abbrev pub base_for : ℤ → ℕ → TreeBase
 base_for high nodes =
-    record { problem = hopeless high; settings = record { nodes = nodes; span = 8; order = Best; gap = pos 0 } }
+    record {
+      problem = hopeless high;
+      settings =
+          record { nodes = nodes; span = 8; order = Best; gap = pos 0 };
+    }
 
 -- it is a seat of a tree of the problem
-pub record IsAt {g : Ghosts LockedTree Entry TreeBase} (t : SharedTree) (high : ℤ) (nodes : ℕ) (p : Seat LockedTree Entry TreeBase g) : Type 0 where
+pub record IsAt {g : Ghosts LockedTree Entry TreeBase} (t : SharedTree) (high : ℤ) (nodes : ℕ)
+    (p : Seat LockedTree Entry TreeBase g) : Type 0 where
   pub seat : IsSeatOf t p
   pub base : (view_of p).base ≡ Some (base_for high nodes)

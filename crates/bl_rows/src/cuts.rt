@@ -1,5 +1,6 @@
 //! Cuts of worked problems: what `derive`, `separate`, `cover_cut` and `find_cover` give.
-ghost use Rattle.std.specs.Prelude.{◌≡◌, ◌+◌, ◌<◌, ◌^◌, replicate, length, pos, All, IfOk, OnOk, IfSome};
+ghost use Rattle.std.specs.Prelude.{◌≡◌, ◌+◌, ◌<◌, ◌^◌, replicate, length, [], pos, All, IfOk};
+ghost use Rattle.std.specs.Prelude.{OnOk, IfSome};
 ghost use Rattle.bl_problem.specs.Sums.{IsWithin};
 ghost use Rattle.bl_problem.specs.Cuts.{SuitsProblem};
 ghost use Rattle.bl_bound.specs.Descriptions.{Describes};
@@ -74,33 +75,56 @@ fn is_cut(cut: &Cut, coefficient: i64, columns: usize, right: i128) -> bool {
     all
 }
 
-// Adds a cut to a description.
-fn add_cut(problem: &Problem, desc: &mut Desc<Cut>, cut: Shared<Cut>) -> Result<(), AllocError>
+// The box of so many columns from 0 to a high, without cuts.
+fn box_to(alloc: Global, high: i64, columns: usize) -> Result<Desc<Cut>, AllocError>
+    ensures lows { IfOk result (λ d. d.lows ≡ replicate columns (pos 0)) }
+    ensures highs { IfOk result (λ d. d.highs ≡ replicate columns high) }
+    ensures cuts { IfOk result (λ d. d.cuts ≡ []) }
+{
+    let highs = Vec::from_elem(alloc, high, columns)?;
+    desc(alloc, highs, Vec::new(alloc))
+}
+
+// The cut of one row by this weight, divided by 2.
+fn halved(alloc: Global, problem: &Problem, weight: i64) -> Result<Cut, CutFault>
+    requires row { length problem.now.rows ≡ 1 }
+    ensures suits { IfOk result (SuitsProblem problem.now) }
+{
+    let id = ItemId { seat: 0, serial: 0 };
+    derive(alloc, problem, &[], &[weight], 2, id)
+}
+
+// Adds the cut of one row by this weight to a description.
+fn add_halved(
+    alloc: Global,
+    problem: &Problem,
+    desc: &mut Desc<Cut>,
+    weight: i64,
+) -> Result<(), Fail>
     requires suits { Describes problem.now desc.old }
     requires few { length desc.old.cuts < 200 }
-    requires cut { SuitsProblem problem.now cut }
+    requires row { length problem.now.rows ≡ 1 }
     ensures suits { OnOk result (Describes problem.now desc.new) }
     ensures cuts { OnOk result (length desc.new.cuts ≡ length desc.old.cuts + 1) }
 {
-    desc.cuts.push(cut)
+    let cut = halved(alloc, problem, weight)?;
+    desc.cuts.push(Shared::new(alloc, cut)?)?;
+    Ok(())
 }
 
-// The weight 1 and the weight -1 on the row 2 X + 2 Y = 3, divided by 2, give X + Y at most 1 and at
-// least 2, and with both cuts no point is left.
+// The weight 1 and the weight -1 on the row 2 X + 2 Y = 3, divided by 2, give X + Y at most 1
+// and at least 2, and with both cuts no point is left.
 #[test]
 fn derived_cuts(rt: HostRuntime) -> Result<(), Fail> {
     let alloc = rt.alloc();
     let problem = odd(alloc).expect(&rt, "a problem");
     assert_eq!(rt; problem.rows().len(), 1);
     assert_eq!(rt; problem.columns().len(), 2);
-    let id = ItemId { seat: 0, serial: 0 };
-    let mut both = desc(alloc, vec![in alloc; 5, 5]?, Vec::new(alloc))?;
-    let most = derive(alloc, &problem, &[], &[1], 2, id)?;
-    assert!(rt; is_cut(&most, 1, 2, 1));
-    let least = derive(alloc, &problem, &[], &[-1], 2, id)?;
-    assert!(rt; is_cut(&least, -1, 2, -2));
-    add_cut(&problem, &mut both, Shared::new(alloc, most)?)?;
-    add_cut(&problem, &mut both, Shared::new(alloc, least)?)?;
+    assert!(rt; is_cut(&halved(alloc, &problem, 1)?, 1, 2, 1));
+    assert!(rt; is_cut(&halved(alloc, &problem, -1)?, -1, 2, -2));
+    let mut both = box_to(alloc, 5, 2)?;
+    add_halved(alloc, &problem, &mut both, 1)?;
+    add_halved(alloc, &problem, &mut both, -1)?;
     assert!(rt; empty(&problem, &both, &[0, -1, -1]));
     Ok(())
 }
@@ -122,7 +146,7 @@ fn separated_rows(rt: HostRuntime) -> Result<(), Fail> {
     let alloc = rt.alloc();
     let problem = odd(alloc).expect(&rt, "a problem");
     assert_eq!(rt; problem.columns().len(), 2);
-    let root = desc(alloc, vec![in alloc; 5, 5]?, Vec::new(alloc))?;
+    let root = box_to(alloc, 5, 2)?;
     for (x, weight) in [(3 << 39, 1), (0, -1)] {
         let pick = separate(alloc, &problem, &root, &[fixed(x), fixed(0)])?.expect(&rt, "a pick");
         assert!(rt; pick.weights.as_slice() == [weight].as_slice() && pick.q == 2);
@@ -184,7 +208,7 @@ fn found_covers(rt: HostRuntime) -> Result<(), Fail> {
     let alloc = rt.alloc();
     let problem = knapsack(alloc).expect(&rt, "a problem");
     assert_eq!(rt; problem.columns().len(), 3);
-    let root = desc(alloc, vec![in alloc; 1, 1, 1]?, Vec::new(alloc))?;
+    let root = box_to(alloc, 1, 3)?;
     let broken = [fixed(ONE), fixed(ONE), fixed(733007751850)];
     let found = find_cover(alloc, &problem, &root, &broken)?;
     assert!(rt; is_cover(&found, 0, [0, 1, 2].as_slice()));

@@ -184,8 +184,8 @@ fn each_read_fails_once(rt: HostRuntime) -> Result<(), Fail> {
     Ok(())
 }
 
-/// The faults of the covering model where it is cut within a line: the line, from how many of its bytes
-/// on, and the fault. Where none is named the end is missing.
+/// The faults of the covering model where it is cut within a line: the line, from how many of
+/// its bytes on, and the fault. Where none is named the end is missing.
 const CUTS: [(usize, usize, &str); 38] = [
     (1, 1, "Section"),
     (1, 4, "NoEnd"),
@@ -227,7 +227,8 @@ const CUTS: [(usize, usize, &str); 38] = [
     (15, 1, "Section"),
 ];
 
-/// The fault of the covering model where so many bytes of a line, counted from 1, are its last ones.
+/// The fault of the covering model where so many bytes of a line, counted from 1, are its last
+/// ones.
 fn fault_of_cut(line: usize, taken: usize) -> &'static str {
     let mut fault = "NoEnd";
     for (of, from, name) in CUTS {
@@ -238,8 +239,8 @@ fn fault_of_cut(line: usize, taken: usize) -> &'static str {
     fault
 }
 
-/// The line that tells the fault. A missing end is told at the line after the last one, and bytes of a
-/// line make it one.
+/// The line that tells the fault. A missing end is told at the line after the last one, and
+/// bytes of a line make it one.
 fn cut_text(alloc: Global, line: usize, taken: usize) -> Result<String, AllocError> {
     let fault = fault_of_cut(line, taken);
     let is_after = fault == "NoEnd" && taken > 0;
@@ -251,7 +252,8 @@ fn cut_text(alloc: Global, line: usize, taken: usize) -> Result<String, AllocErr
     format!(in alloc; "fault model line {told} {fault}\n")
 }
 
-/// The first count of bytes of a line at which the covering model, cut there, is not told as it is to be.
+/// The first count of bytes of a line at which the covering model, cut there, is not told as it
+/// is to be.
 fn first_untold(
     alloc: Global,
     before: &[u8],

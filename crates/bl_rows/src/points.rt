@@ -1,6 +1,7 @@
 //! Places of a split, points tried and bounds fixed, of problems with two columns X and Y, costs
 //! 2 and 3, and the row 2X + 3Y >= 7.
-ghost use Rattle.std.specs.Prelude.{◌≡◌, ℕ, ◌<◌, ◌^◌, ◌≤ℤ◌, ◌<ℤ◌, [], ◌∷◌, Some, None, pos, length, All, IfOk, IsTrue};
+ghost use Rattle.std.specs.Prelude.{◌≡◌, ℕ, ◌<◌, ◌^◌, ◌≤ℤ◌, ◌<ℤ◌, [], ◌∷◌, Some, None, pos};
+ghost use Rattle.std.specs.Prelude.{length, All, IfOk, IsTrue};
 ghost use Rattle.bl_num.specs.Exact.{at};
 ghost use Rattle.bl_problem.specs.Sums.{IsWithin};
 ghost use Rattle.bl_problem.specs.Rows.{AreEnds};
@@ -12,7 +13,7 @@ use bl_branch::{BranchRule, half, most_fractional};
 use bl_desc::{Desc, Status};
 use bl_fix::{fix, fix_by};
 use bl_fixed::Fixed;
-use bl_heur::{RowMultiplier, dive, round_point, row_multipliers};
+use bl_heur::{RowMultiplier, best_row_multiplier, dive, has_large_numbers, round_point};
 use bl_mods::Items;
 use bl_problem::{Column, Cut, Decision, Name, Problem, Row, Sense, Side, Term};
 use std::alloc::{AllocError, Global};
@@ -264,7 +265,7 @@ fn fixed_at_once(alloc: Global, y: i64, d: i64, cutoff: i128) -> Result<String, 
 {
     let problem = problem(alloc, None)?;
     let root = description(alloc, [0, 0], [10, 10])?;
-    let reduced = ReducedCosts::new(&problem, &root, [y].as_slice(), d);
+    let reduced = ReducedCosts::new(alloc, &problem, &root, [y].as_slice(), d)?;
     match reduced.bound() {
         Some(least) if least < cutoff => {
             outcome(alloc, fix_by(alloc, &problem, &root, &reduced, cutoff)?)
@@ -299,56 +300,25 @@ fn bounds_are_fixed(rt: HostRuntime) -> Result<(), Fail> {
     Ok(())
 }
 
-// The row 2^23 X + 2^24 Y >= 6 * 2^23.
-fn great_rows(alloc: Global) -> Result<Vec<Row>, AllocError>
-    ensures { IfOk result (λ rows. rows.items ≡
-        record { name = 82 ∷ []; terms = record { column = 0; coefficient = pos 8388608 } ∷ record { column = 1; coefficient = pos 16777216 } ∷ []; low = Some (pos 50331648); high = None } ∷ []) }
-{
-    let name = Name::new(vec![in alloc; b'R']?);
-    let x = Term {
-        column: 0,
-        coefficient: 8_388_608,
-    };
-    let y = Term {
-        column: 1,
-        coefficient: 16_777_216,
-    };
-    let terms = Items::from_vec(vec![in alloc; x, y]?);
-    Ok(vec![in alloc;
-        Row {
-            name,
-            terms,
-            low: Some(50_331_648),
-            high: None
-        },
-    ]?)
-}
+// 2 X + 3 Y in all over the row 2^23 X + 2^24 Y of at least 6 * 2^23, with columns from 0 to 10.
+const LARGE_ROW: &[u8] =
+    b"NAME\nROWS\n N C\n G R\nCOLUMNS\n M 'MARKER' 'INTORG'\n X C 2 R 8388608\n Y C 3 R 16777216\n M 'MARKER' 'INTEND'\nRHS\n B R 50331648\nBOUNDS\n UP B X 10\n UP B Y 10\nENDATA\n";
 
-fn great_problem(alloc: Global) -> Result<Problem, AllocError>
-    ensures columns { IfOk result (λ p. length p.columns ≡ 2) }
-    ensures rows { IfOk result (λ p. length p.rows ≡ 1) }
-{
-    let columns = columns(alloc)?;
-    let rows = great_rows(alloc)?;
-    let objective = Name::new(vec![in alloc; b'C']?);
-    Ok(Problem::new(columns, rows, objective, 0, 0, Sense::Min))
-}
-
+// Over the large row alone a unit of Y is the cheapest: 3 of it cost 9.
 #[test]
-fn great_rows_have_multipliers(rt: HostRuntime) -> Result<(), Fail> {
+fn large_rows_have_multipliers(rt: HostRuntime) -> Result<(), Fail> {
     let alloc = rt.alloc();
     let root = description(alloc, [0, 0], [10, 10])?;
     let small = problem(alloc, None)?;
-    let none = row_multipliers(alloc, &small, &root)?;
-    assert!(rt; none.is_empty());
-    let great = great_problem(alloc)?;
-    let found = row_multipliers(alloc, &great, &root)?;
+    assert!(rt; !has_large_numbers(&small));
+    let large = bl_mps::read(alloc, LARGE_ROW).ok().expect(&rt, "a problem");
+    assert!(rt; has_large_numbers(&large));
     let want = RowMultiplier {
         row: 0,
-        y: 3,
-        d: 16_777_216,
+        value: 3,
+        denominator: 16_777_216,
+        gain: 9,
     };
-    assert_eq!(rt; found.as_slice(), [want].as_slice());
-    assert_eq!(rt; bound(&great, &root, [3].as_slice(), 16_777_216), Some(9));
+    assert_eq!(rt; best_row_multiplier(alloc, &large, &root)?, Some(want));
     Ok(())
 }

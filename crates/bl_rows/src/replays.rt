@@ -1,6 +1,6 @@
 //! Trees that are made again of the text of their journal.
 ghost use Rattle.std.specs.Prelude.{◌≡◌, ◌≤◌, ◌<◌, pos, ◌≤ℤ◌};
-ghost use Rattle.bl_journal.specs.declared.settings.TheConstants.{LARGEST_GAP};
+ghost use Rattle.bl_journal.specs.declared.limits.TheConstants.{LARGEST_GAP, MOST_NODES, MOST_SPAN};
 ghost use Rattle.bl_search.specs.Searches.{IsSearched};
 
 use crate::search::{by_half, problem};
@@ -17,8 +17,8 @@ use std::alloc::{AllocError, Global};
 use std::sync::Arc;
 use std::test::Fail;
 
-/// An equation that no whole numbers meet, since its right side is odd, over columns of one unit and of
-/// five.
+/// An equation that no whole numbers meet, since its right side is odd, over columns of one unit
+/// and of five.
 const ODDEST: &[u8] = b"NAME
 ROWS
  N  COST
@@ -50,8 +50,8 @@ pub(crate) fn told(
     answer_text(alloc, problem, &tree.answer(), with_columns)
 }
 
-/// Whether the text of the tree's journal reads back, and a replay of what is read has the tree's answer
-/// and holds as much.
+/// Whether the text of the tree's journal reads back, and a replay of what is read has the
+/// tree's answer and holds as much.
 pub(crate) fn is_replayed(
     alloc: Global,
     problem: &Arc<Problem>,
@@ -59,9 +59,9 @@ pub(crate) fn is_replayed(
     workers: u32,
     search: &EndedSearch,
 ) -> Result<bool, AllocError>
-    requires nodes { settings.nodes ≤ 100000 }
+    requires nodes { settings.nodes ≤ MOST_NODES }
     requires some_span { 0 < settings.span }
-    requires few_spans { settings.span ≤ 64 }
+    requires few_spans { settings.span ≤ MOST_SPAN }
     requires some_gap { pos 0 ≤ℤ settings.gap }
     requires few_gaps { settings.gap ≤ℤ LARGEST_GAP }
     requires searched { IsSearched problem.now.value settings workers search.now }

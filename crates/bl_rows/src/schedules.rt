@@ -1,6 +1,7 @@
 //! Searches under many schedules, each made by holds that a number gives.
 ghost use Rattle.std.specs.Prelude.{◌≡◌, ◌<◌, ◌≤◌, pos, ◌≤ℤ◌};
-ghost use Rattle.bl_journal.specs.declared.settings.TheConstants.{LARGEST_GAP};
+ghost use Rattle.bl_journal.specs.declared.limits.TheConstants.{LARGEST_GAP, MOST_NODES};
+ghost use Rattle.bl_journal.specs.declared.limits.TheConstants.{MOST_SPAN, MOST_WORKERS};
 
 use crate::replays::{is_replayed, told};
 use crate::search::by_half;
@@ -62,7 +63,7 @@ impl Draws {
 /// The holds of a schedule of so many workers: one to six.
 fn some_holds(alloc: Global, draws: &mut Draws, workers: u32) -> Result<Vec<Hold>, AllocError>
     requires some { 0 < workers }
-    requires few { workers ≤ 64 }
+    requires few { workers ≤ MOST_WORKERS }
 {
     let mut holds = Vec::new(alloc);
     for _ in 0..=draws.draw(6) {
@@ -90,8 +91,8 @@ fn settings(span: u32, order: Order) -> Settings
     }
 }
 
-/// Whether a search of so many workers that pass the gate answers with this text, and a replay of its
-/// journal's text with the same.
+/// Whether a search of so many workers that pass the gate answers with this text, and a replay
+/// of its journal's text with the same.
 fn is_alike<R: Threads + Wait + Sync>(
     rt: &R,
     alloc: Global,
@@ -101,13 +102,13 @@ fn is_alike<R: Threads + Wait + Sync>(
     gate: &HoldGate,
     text: &[u8],
 ) -> Result<bool, AllocError>
-    requires nodes { settings.nodes ≤ 100000 }
+    requires nodes { settings.nodes ≤ MOST_NODES }
     requires some_span { 0 < settings.span }
-    requires few_spans { settings.span ≤ 64 }
+    requires few_spans { settings.span ≤ MOST_SPAN }
     requires some_gap { pos 0 ≤ℤ settings.gap }
     requires few_gaps { settings.gap ≤ℤ LARGEST_GAP }
     requires some_workers { 1 ≤ workers }
-    requires few_workers { workers ≤ 64 }
+    requires few_workers { workers ≤ MOST_WORKERS }
 {
     let rule = BranchRule::new(by_half);
     let rows = KindSeparator::new(CutKinds::Rows);
@@ -124,9 +125,9 @@ fn text_alone(
     problem: &Arc<Problem>,
     settings: Settings,
 ) -> Result<Option<Vec<u8>>, AllocError>
-    requires nodes { settings.nodes ≤ 100000 }
+    requires nodes { settings.nodes ≤ MOST_NODES }
     requires some_span { 0 < settings.span }
-    requires few_spans { settings.span ≤ 64 }
+    requires few_spans { settings.span ≤ MOST_SPAN }
     requires some_gap { pos 0 ≤ℤ settings.gap }
     requires few_gaps { settings.gap ≤ℤ LARGEST_GAP }
 {
@@ -139,8 +140,8 @@ fn text_alone(
     Ok(Some(told(alloc, problem, &alone.tree, false)?))
 }
 
-/// The number of the first schedule under which the answer is not that of one seat, or a replay differs;
-/// the first one where the tree is too small to tell.
+/// The number of the first schedule under which the answer is not that of one seat, or a replay
+/// differs; the first one where the tree is too small to tell.
 fn first_unlike<R: Threads + Wait + Sync>(
     rt: &R,
     alloc: Global,
@@ -148,9 +149,9 @@ fn first_unlike<R: Threads + Wait + Sync>(
     settings: Settings,
     start: u32,
 ) -> Result<Option<u32>, AllocError>
-    requires nodes { settings.nodes ≤ 100000 }
+    requires nodes { settings.nodes ≤ MOST_NODES }
     requires some_span { 0 < settings.span }
-    requires few_spans { settings.span ≤ 64 }
+    requires few_spans { settings.span ≤ MOST_SPAN }
     requires some_gap { pos 0 ≤ℤ settings.gap }
     requires few_gaps { settings.gap ≤ℤ LARGEST_GAP }
 {

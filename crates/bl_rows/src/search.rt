@@ -14,7 +14,8 @@ use std::alloc::{AllocError, Global};
 use std::sync::Arc;
 use std::test::Fail;
 
-/// An equation that no whole numbers meet, since its right side is odd: two units of each of three columns.
+/// An equation that no whole numbers meet, since its right side is odd: two units of each of
+/// three columns.
 const ODD: &[u8] = b"NAME
 ROWS
  N  COST
@@ -124,7 +125,8 @@ fn is_settled(journal: &Journal, place: usize, node: u32) -> bool {
     false
 }
 
-/// How many puts split, and how many of those whose number four divides have a child that isn't settled in time.
+/// How many puts split, and how many of those whose number four divides have a child that isn't
+/// settled in time.
 fn unsettled(journal: &Journal) -> (u32, u32) {
     let mut splits: u32 = 0;
     let mut late: u32 = 0;

@@ -1,5 +1,7 @@
-//! Trees that threads share, of a problem without a feasible point: worked calls of two seats, and four threads.
-ghost use Rattle.std.specs.Prelude.{◌≡◌, ◌≢◌, ◌⊎◌, ◌<◌, ◌+◌, ◌^◌, ◌≤ℤ◌, ◌<ℤ◌, ◌+ℤ◌, [], ◌∷◌, pos, length, slice_index_or, vec_len, All, IfOk, IfSome};
+//! Trees that threads share, of a problem without a feasible point: worked calls of two seats,
+//! and four threads.
+ghost use Rattle.std.specs.Prelude.{◌≡◌, ◌≢◌, ◌⊎◌, ◌<◌, ◌+◌, ◌^◌, ◌≤ℤ◌, ◌<ℤ◌, ◌+ℤ◌, [], ◌∷◌, pos};
+ghost use Rattle.std.specs.Prelude.{length, slice_index_or, vec_len, All, IfOk, IfSome};
 ghost use Rattle.bl_desc.specs.Changes.{IsWhole};
 ghost use Rattle.bl_journal.specs.Descriptions.{left_child, right_child};
 ghost use Rattle.bl_journal.specs.Pieces.{piece_below, form_at_birth};
@@ -164,7 +166,8 @@ fn split(
     })
 }
 
-/// Splits off the least entry of the first column that has two or more; shuts the node where there is none.
+/// Splits off the least entry of the first column that has two or more; shuts the node where
+/// there is none.
 fn halve(alloc: Global, desc: &Desc<Cut>, form: Form) -> Result<Outcome, AllocError>
     requires whole { IsWhole desc.now }
     requires columns { length desc.now.lows ≡ 2 }
@@ -285,7 +288,8 @@ enum Stored {
     Made,
 }
 
-/// A job to store a node in a form; what the plan answers where it gives none. Gone where the node is not born.
+/// A job to store a node in a form; what the plan answers where it gives none. Gone where the
+/// node is not born.
 fn job_for<R: Wait>(
     rt: &R,
     alloc: Global,
@@ -370,11 +374,12 @@ fn store_each<R: Wait + Abort>(
 fn frees<R: Wait>(rt: &R, tree: &SharedTree, seat: &mut TreeSeat, nodes: &[u32], size: Size) -> bool
     requires seat { IsAt tree.now size.high size.nodes seat.old }
     ensures seat { IsAt tree.now size.high size.nodes seat.new }
-    ensures jobs { (job : _) → IsJobOf (tree_seen (view_of seat.old)) job → IsJobOf (tree_seen (view_of seat.new)) job }
+    ensures jobs { (job : _) → IsJobOf (tree_seen (view_of seat.old)) job
+        → IsJobOf (tree_seen (view_of seat.new)) job }
 {
     jobs_stay();
     match tree.free(rt, seat) {
-        Ok(Freed::Chain(ids)) => ids.as_slice() == nodes,
+        Ok(Freed::Chain(freed)) => freed.ids() == nodes,
         Ok(Freed::Nothing) => nodes.is_empty(),
         Err(_) => false,
     }
@@ -450,7 +455,8 @@ fn forms_change_and_nodes_are_freed(rt: HostRuntime) {
     assert_eq!(rt; tree.journal().len(), 5);
 }
 
-/// Splits and shuts nodes until none is live, stores children whole and frees nodes; each fifth node is handed back first.
+/// Splits and shuts nodes until none is live, stores children whole and frees nodes; each fifth
+/// node is handed back first.
 fn search<R: Wait + Abort>(
     rt: &R,
     alloc: Global,
@@ -515,7 +521,8 @@ fn split_all<R: Abort>(
     requires seat { IsAt tree.now size.high size.nodes first.old }
     requires view { (number first.old ≡ 0) × (given first.old ≡ 0) × (ended first.old ≡ []) }
     ensures seat { IsAt tree.now size.high size.nodes first.new }
-    ensures view { (number first.new ≡ 0) × (given first.new ≡ vec_len result) × (ended first.new ≡ []) }
+    ensures view { (number first.new ≡ 0) × (given first.new ≡ vec_len result)
+        × (ended first.new ≡ []) }
     ensures seats { All (λ s. IsAt tree.now size.high size.nodes s) result.items }
 {
     let mut seats = Vec::new(alloc);
@@ -546,7 +553,8 @@ fn search_all<R: Threads + Wait + Abort + Sync>(
 
 fn join_all(tree: &SharedTree, first: &mut TreeSeat, mut seats: Vec<TreeSeat>, size: Size)
     requires seat { IsAt tree.now size.high size.nodes first.old }
-    requires view { (number first.old ≡ 0) × (given first.old ≡ vec_len seats) × (ended first.old ≡ []) }
+    requires view { (number first.old ≡ 0) × (given first.old ≡ vec_len seats)
+        × (ended first.old ≡ []) }
     requires seats { All (λ s. IsAt tree.now size.high size.nodes s) seats.items }
     ensures seat { IsAt tree.now size.high size.nodes first.new }
     ensures view { (number first.new ≡ 0) × (length (ended first.new) ≡ given first.new) }
@@ -631,7 +639,8 @@ fn seat_of(entry: &Entry) -> u32 {
     }
 }
 
-/// Walks a history; how many entries may not come where they stand, or are of no seat from 1 to the number of threads, and how many nodes are not freed at its end.
+/// Walks a history; how many entries may not come where they stand, or are of no seat from 1 to
+/// the number of threads, and how many nodes are not freed at its end.
 fn walk(alloc: Global, journal: &Journal) -> Result<(usize, usize), AllocError> {
     let mut states = vec![in alloc; State::Waiting]?;
     let mut wrong: usize = 0;

@@ -261,8 +261,8 @@ fn boxed(
     })
 }
 
-// What the multipliers show for a box: `d` times a bound, and where `d` is 0 and the sum is positive,
-// that no point is left.
+// What the multipliers show for a box: `d` times a bound, and where `d` is 0 and the sum is
+// positive, that no point is left.
 fn sum_shown(problem: &Problem, bounds: &Bounds, y: &[i64], d: i64) -> i128 {
     let mut sum = 0i128;
     for (number, column) in problem.columns().iter().enumerate() {
@@ -295,8 +295,8 @@ fn taken_off(rows: &[Row], y: &[i64], column: usize) -> i128 {
     sum
 }
 
-// A thousand times the value that a proposal shows, rounded toward 0; None where it shows that no point is
-// left.
+// A thousand times the value that a proposal shows, rounded toward 0; None where it shows that
+// no point is left.
 fn value_shown(problem: &Problem, bounds: &Bounds, proposal: &Proposal) -> Option<i128> {
     let y = proposal.y.as_slice();
     if 0 < sum_shown(problem, bounds, y, 0) && proposal.branch.is_none() && proposal.d == 1 {

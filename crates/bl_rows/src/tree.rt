@@ -75,11 +75,13 @@ pub fn problem(alloc: Global, low: i64) -> Result<Problem, AllocError>
     Ok(Problem::new(columns, rows, objective, 0, 0, Sense::Min))
 }
 
-// The tree of the problem with this low of X and this gap; where the low is 11, its box has no point.
+// The tree of the problem with this low of X and this gap; where the low is 11, its box has no
+// point.
 fn open_tree(alloc: Global, low: i64, gap: i128) -> Result<Tree, AllocError>
     requires low { low ≡ pos 0 ⊎ low ≡ pos 11 }
     requires gap { (pos 0 ≤ℤ gap) × (gap ≤ℤ pos 3) }
-    ensures { IfOk result (λ tree. low ≡ pos 0 → tree ≡ record { problem = covering; settings = with_gap gap; history = [] }) }
+    ensures { IfOk result (λ tree. low ≡ pos 0 → tree
+        ≡ record { problem = covering; settings = with_gap gap; history = [] }) }
 {
     let problem = problem(alloc, low)?;
     let settings = Settings {
@@ -132,7 +134,12 @@ fn put_root(
     gap: i128,
     found: Option<i64>,
 ) -> Result<Option<Born>, AllocError>
-    requires tree { tree.old ≡ record { problem = covering; settings = with_gap gap; history = Take 0 0 ∷ [] } }
+    requires tree { tree.old ≡ record {
+      problem = covering;
+      settings = with_gap gap;
+      history =
+          Take 0 0 ∷ [];
+    } }
     requires leased { IsLeaseOf tree.old 0 lease }
     requires root { lease.id ≡ 0 }
     requires found { IfSome found IsRange }
@@ -209,12 +216,13 @@ fn store(
     form: Form,
 ) -> Result<Option<Installed>, AllocError> {
     match job_for(alloc, tree, id, form)? {
-        Some(job) => Ok(Some(tree.install(0, job)?)),
+        Some(job) => Ok(Some(tree.install(0, job)?.installed())),
         None => Ok(None),
     }
 }
 
-// Whether a free answers these nodes, and what the install of a job that was made before it answers then.
+// Whether a free answers these nodes, and what the install of a job that was made before it
+// answers then.
 fn free_and_install(
     tree: &mut Tree,
     nodes: &[u32],
@@ -225,8 +233,8 @@ fn free_and_install(
     jobs_stay();
     let _journal = tree.journal();
     match tree.free(0)? {
-        Freed::Chain(ids) => Ok((ids.as_slice() == nodes, tree.install(0, job)?)),
-        Freed::Nothing => Ok((nodes.is_empty(), tree.install(0, job)?)),
+        Freed::Chain(freed) => Ok((freed.ids() == nodes, tree.install(0, job)?.installed())),
+        Freed::Nothing => Ok((nodes.is_empty(), tree.install(0, job)?.installed())),
     }
 }
 
@@ -247,7 +255,7 @@ fn store_after_free(
 // Whether a free answers these nodes; none of them stands for Nothing.
 fn frees(tree: &mut Tree, nodes: &[u32]) -> Result<bool, AllocError> {
     match tree.free(0)? {
-        Freed::Chain(ids) => Ok(ids.as_slice() == nodes),
+        Freed::Chain(freed) => Ok(freed.ids() == nodes),
         Freed::Nothing => Ok(nodes.is_empty()),
     }
 }

@@ -1,7 +1,7 @@
 //! Workers side by side: how they end, what their tree answers, and that one goes on while another
 //! is held.
 ghost use Rattle.std.specs.Prelude.{◌≡◌, ◌<◌, [], IfOk};
-ghost use Rattle.bl_shared.specs.Laws.{HasNoneOut};
+ghost use Rattle.bl_journal.specs.Seats.{HasNoneOut};
 ghost use Rattle.bl_worker.specs.Ends.{HasNoneByWorkers};
 
 use crate::search::{ODDER, Silent, by_half, problem as read_problem};
@@ -138,8 +138,8 @@ fn one_works_while_the_other_is_held(rt: HostRuntime) -> Result<(), Fail> {
         gap: 0,
     };
     let tree = Tree::new(alloc, Arc::try_clone(&problem)?, settings)?;
-    // worker 2 takes nothing before worker 1 has split the root and taken a child, with which it is held
-    // until worker 2 has put
+    // worker 2 takes nothing before worker 1 has split the root and taken a child, with which it
+    // is held until worker 2 has put
     let holds = [
         Hold {
             worker: 1,

@@ -146,7 +146,8 @@ fn problems_are_written(rt: HostRuntime) -> Result<(), Fail> {
     Ok(())
 }
 
-/// Whether the problem of a text is written and read back as it was; none where there is no such problem.
+/// Whether the problem of a text is written and read back as it was; none where there is no such
+/// problem.
 fn comes_back(alloc: Global, text: &[u8]) -> Option<bool> {
     let problem = problem_of(alloc, text)?;
     let written = write(alloc, &problem).ok()?;

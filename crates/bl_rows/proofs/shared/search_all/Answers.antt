@@ -14,4 +14,5 @@ pub for_each_mut-requires-send-T : goal.for_each_mut-requires-send-T
 for_each_mut-requires-send-T g c κs within = search (sendable, tree_seat_send) depth 20
 
 pub for_each_mut-requires-sync-F : goal.for_each_mut-requires-sync-F
-for_each_mut-requires-sync-F g c κs within = search (sendable, heap_sync, size_sync, shared_tree_sync) depth 12 fits 20000
+for_each_mut-requires-sync-F g c κs within =
+    search (sendable, heap_sync, size_sync, shared_tree_sync) depth 12 fits 20000
