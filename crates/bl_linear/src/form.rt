@@ -6,7 +6,7 @@ use crate::prepared::Prepared;
 use crate::rows::{Ends, Rows, lines_of};
 use crate::scaling::exponent_at;
 use bl_desc::Desc;
-use bl_fixed::{Fixed, saturating_add};
+use bl_fixed::{Fixed, saturating_add, saturating_sub};
 use bl_problem::Cut;
 use std::alloc::{AllocError, Global};
 
@@ -160,6 +160,17 @@ impl<'a> Form<'a> {
         }
     }
 
+    /// Adds to `right` what a step of an item that is not basic adds to the rows' right sides.
+    pub fn add_step(&self, item: usize, step: Fixed, right: &mut [Fixed]) {
+        match item.checked_sub(self.width) {
+            Some(row) => put(right, row, saturating_sub(at(right, row), step)),
+            None => {
+                add_multiple(right, self.column_in_rows(item), step);
+                add_multiple(right, self.column_in_cuts(item), step);
+            }
+        }
+    }
+
     fn set_columns(&mut self, lows: &[i64], highs: &[i64]) {
         for column in 0..self.width {
             let power = self.column_exponent(column).saturating_add(40);
@@ -218,6 +229,15 @@ impl<'a> Form<'a> {
 fn put_negated(column: &mut [Fixed], coefficients: &[Coefficient]) {
     for coefficient in coefficients {
         put(column, coefficient.place as usize, coefficient.negated());
+    }
+}
+
+// Adds a multiple of coefficients to the numbers at their places.
+pub fn add_multiple(numbers: &mut [Fixed], coefficients: &[Coefficient], multiplier: Fixed) {
+    for coefficient in coefficients {
+        if let Some(number) = numbers.get_mut(coefficient.place as usize) {
+            *number = saturating_add(*number, multiple(coefficient.raw, multiplier));
+        }
     }
 }
 

@@ -9,6 +9,6 @@ mod rows;
 mod scaling;
 mod substitutes;
 
-pub use form::Form;
+pub use form::{Form, add_multiple};
 pub use lines::Coefficient;
 pub use prepared::Prepared;

@@ -390,12 +390,25 @@ fn propose_to(
 fn proposals_for_models(rt: HostRuntime) -> Result<(), Fail> {
     for (kind, rows, columns, least, most, value, cutoff, sides) in [
         (Kind::Cover, 10, 30, 2, 4, Some(4000), 5, 0),
-        (Kind::Cover, 60, 150, 65, 90, Some(53000), 54, 0),
-        (Kind::Cover, 180, 360, 150, 320, Some(181359), 182, 1),
-        (Kind::Packing, 15, 40, 85, 115, Some(-6761558), -6740, 3),
-        (Kind::Packing, 30, 100, 400, 530, Some(-23056449), -23040, 2),
-        (Kind::NoCosts, 100, 200, 150, 350, Some(0), 1, 0),
-        (Kind::TooFew, 20, 60, 20, 60, None, 0, 0),
+        (Kind::Cover, 60, 150, 55, 95, Some(53000), 54, 0),
+        (Kind::Cover, 180, 360, 160, 260, Some(181359), 182, 1),
+        (Kind::Cover, 400, 800, 550, 950, Some(456447), 457, 5),
+        (Kind::Cover, 600, 1000, 850, 1400, Some(792344), 793, 5),
+        (Kind::Packing, 15, 40, 20, 40, Some(-6761558), -6740, 3),
+        (Kind::Packing, 30, 100, 50, 90, Some(-23056449), -23040, 2),
+        (
+            Kind::Packing,
+            100,
+            300,
+            150,
+            260,
+            Some(-68009851),
+            -67990,
+            1,
+        ),
+        (Kind::NoCosts, 100, 200, 110, 210, Some(0), 1, 0),
+        (Kind::NoCosts, 300, 600, 400, 700, Some(0), 1, 0),
+        (Kind::TooFew, 20, 60, 15, 40, None, 0, 0),
     ] {
         let model = Model {
             kind,

@@ -5,6 +5,7 @@
 mod answer;
 mod basis;
 mod branching;
+mod passing;
 mod pricing;
 mod proposal;
 mod ratio;

@@ -9,16 +9,20 @@ use std::alloc::{AllocError, Global};
 const TOLERANCE: i128 = 1 << 16;
 
 /// From this many rows on the distances of basic values from their ends are weighed.
-const LEAST_WEIGHED: usize = 150;
+const LEAST_WEIGHED: usize = 60;
+
+/// Where a weight passes 2^20 all weights begin anew, so that distances still count.
+const MOST_WEIGHT: i128 = 1 << 60;
 
 /// Larger distances count as this one.
 const MOST_DISTANCE: i128 = 1 << 80;
 
-/// A place whose item is outside its ends, and whether its value must rise.
+/// A place whose item is outside its ends, whether its value must rise, and how far.
 #[derive(Clone, Copy)]
 pub struct Leaving {
     pub place: usize,
     pub rises: bool,
+    pub distance: Fixed,
 }
 
 /// A weight for each place, by which the squares of distances are divided (dual devex, after
@@ -53,6 +57,9 @@ impl Pricing {
                 best = Some(Leaving {
                     place,
                     rises: found.rises,
+                    distance: Fixed {
+                        raw: found.distance,
+                    },
                 });
             }
         }
@@ -77,13 +84,18 @@ impl Pricing {
             quotient(old, greater(saturating_mul(pivot, pivot), ONE_UNIT)),
             ZERO,
         );
+        let mut most = new;
         for (weight, entry) in self.weights.iter_mut().zip(image.iter()) {
             if entry.raw != 0 {
                 *weight = greater(*weight, saturating_mul(saturating_mul(*entry, *entry), new));
+                most = greater(most, *weight);
             }
         }
         if let Some(weight) = self.weights.get_mut(place) {
             *weight = greater(new, ONE);
+        }
+        if MOST_WEIGHT < most.raw {
+            self.weights.as_mut_slice().fill(ONE);
         }
     }
 }
@@ -133,6 +145,9 @@ pub fn first(form: &Form<'_>, basis: &Basis, values: &[Fixed]) -> Option<Leaving
                 best = Some(Leaving {
                     place,
                     rises: found.rises,
+                    distance: Fixed {
+                        raw: found.distance,
+                    },
                 });
             }
         }

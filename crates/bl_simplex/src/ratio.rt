@@ -84,27 +84,41 @@ fn stands_at_own_end(form: &Form<'_>, status: &[Status], item: usize) -> bool {
     }
 }
 
+// Whether the end at which an item does not stand is its own.
+pub fn has_other_end(form: &Form<'_>, status: &[Status], item: usize) -> bool {
+    if is_at_low(status, item) {
+        form.has_high(item)
+    } else {
+        form.has_low(item)
+    }
+}
+
 // The item with the greatest entry among those whose reduced costs come to 0 before any passes it
 // by the tolerance.
 pub fn best_of(candidates: &[Candidate]) -> Option<Candidate> {
     let limit = least_ratio(candidates)?;
     let mut best = limit;
     for candidate in candidates {
-        let is_near = !is_less_ratio(
-            limit.slack_cost(),
-            limit.entry,
-            candidate.cost,
-            candidate.entry,
-        );
-        if is_near && best.entry < candidate.entry {
+        if best.entry < candidate.entry && is_near(*candidate, limit) {
             best = *candidate;
         }
     }
     Some(best)
 }
 
+// Whether a candidate's reduced cost comes to 0 before that of the limit passes it by the
+// tolerance.
+pub fn is_near(candidate: Candidate, limit: Candidate) -> bool {
+    !is_less_ratio(
+        limit.slack_cost(),
+        limit.entry,
+        candidate.cost,
+        candidate.entry,
+    )
+}
+
 // The candidate whose reduced cost passes 0 by the tolerance first.
-fn least_ratio(candidates: &[Candidate]) -> Option<Candidate> {
+pub fn least_ratio(candidates: &[Candidate]) -> Option<Candidate> {
     let mut least = *candidates.first()?;
     for candidate in candidates {
         let is_less = is_less_ratio(

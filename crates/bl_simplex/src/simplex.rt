@@ -3,13 +3,14 @@
 ghost use Rattle.std.specs.Prelude.{◌≤◌, IfOk};
 
 use crate::basis::{Basis, is_basic};
+use crate::passing::pass;
 use crate::pricing::{self, Leaving, Pricing};
 use crate::ratio::{self, COST_TOLERANCE, Candidate};
 use crate::row::PivotRow;
 use bl_desc::Status;
 use bl_fixed::{Fixed, saturating_add, saturating_mul, saturating_sub};
 use bl_linear::numbers::{ZERO, at, multiple, negated, put, quotient};
-use bl_linear::{Coefficient, Form};
+use bl_linear::{Coefficient, Form, add_multiple};
 use std::alloc::{AllocError, Global};
 
 /// After this many pivots reduced costs and values are made anew.
@@ -64,6 +65,8 @@ pub struct Simplex<'a> {
     pub row: PivotRow,
     pricing: Pricing,
     candidates: Vec<Candidate>,
+    // The items that go to their other ends before the next pivot.
+    passed: Vec<u32>,
     // The multipliers of the rows by which reduced costs are made anew.
     multipliers: Vec<Fixed>,
     // The image of the column of the item that enters.
@@ -103,6 +106,7 @@ impl<'a> Simplex<'a> {
             reduced: Vec::from_elem(alloc, ZERO, items)?,
             pricing: Pricing::new(alloc, height)?,
             candidates: Vec::with_capacity(alloc, items)?,
+            passed: Vec::with_capacity(alloc, items)?,
             multipliers: Vec::from_elem(alloc, ZERO, height)?,
             image: Vec::from_elem(alloc, ZERO, height)?,
             stalled: 0,
@@ -156,10 +160,11 @@ impl<'a> Simplex<'a> {
             return self.end();
         };
         self.make_row(leaving.place)?;
-        let Some(entering) = self.entering(leaving.rises)? else {
+        let Some(entering) = self.entering(leaving)? else {
             let rises = leaving.rises;
             return Ok(Step::Ended(Ending::Infeasible { rises }));
         };
+        self.move_passed()?;
         if !self.pivot(leaving, entering.item as usize)? {
             return self.renew();
         }
@@ -209,21 +214,49 @@ impl<'a> Simplex<'a> {
         }
     }
 
-    fn entering(&mut self, rises: bool) -> Result<Option<Candidate>, AllocError> {
+    fn entering(&mut self, leaving: Leaving) -> Result<Option<Candidate>, AllocError> {
         let has_shifted = ratio::list_candidates(
             &self.form,
             &self.row,
             self.status.as_slice(),
             self.reduced.as_mut_slice(),
-            rises,
+            leaving.rises,
             &mut self.candidates,
         )?;
         self.is_shifted = self.is_shifted || has_shifted;
-        Ok(if self.is_stalled() {
-            ratio::first_of(self.candidates.as_slice())
-        } else {
-            ratio::best_of(self.candidates.as_slice())
-        })
+        self.passed.clear();
+        if self.is_stalled() {
+            return Ok(ratio::first_of(self.candidates.as_slice()));
+        }
+        pass(
+            &self.form,
+            self.status.as_slice(),
+            leaving.distance,
+            &mut self.candidates,
+            &mut self.passed,
+        )?;
+        Ok(ratio::best_of(self.candidates.as_slice()))
+    }
+
+    // Moves the passed items to their other ends, and the basic values with them.
+    fn move_passed(&mut self) -> Result<(), AllocError> {
+        if self.passed.is_empty() {
+            return Ok(());
+        }
+        self.image.as_mut_slice().fill(ZERO);
+        for item in self.passed.iter() {
+            let item = *item as usize;
+            let (side, end) = other_end(&self.form, self.status.as_slice(), item);
+            let step = saturating_sub(end, at(self.values.as_slice(), item));
+            self.form.add_step(item, step, self.image.as_mut_slice());
+            put(self.values.as_mut_slice(), item, end);
+            set_status(self.status.as_mut_slice(), item, side);
+        }
+        self.basis.solve(self.image.as_mut_slice())?;
+        for (basic, step) in self.basics.iter_mut().zip(self.image.iter()) {
+            *basic = saturating_add(*basic, *step);
+        }
+        Ok(())
     }
 
     // Exchanges the leaving item for the entering one, unless the pivot is too small. Whether it
@@ -307,7 +340,7 @@ impl<'a> Simplex<'a> {
         for (row, multiplier) in self.multipliers.iter().enumerate() {
             put(reduced, self.form.activity(row), negated(*multiplier));
             if multiplier.raw != 0 {
-                add_line(reduced, self.form.row(row), *multiplier);
+                add_multiple(reduced, self.form.row(row), *multiplier);
             }
         }
         Ok(())
@@ -359,15 +392,6 @@ fn row_value(line: &[Coefficient], status: &[Status], values: &[Fixed], start: F
     sum
 }
 
-// Adds the multiple of a row's coefficients to the reduced costs.
-fn add_line(reduced: &mut [Fixed], line: &[Coefficient], multiplier: Fixed) {
-    for coefficient in line {
-        if let Some(cost) = reduced.get_mut(coefficient.place as usize) {
-            *cost = saturating_add(*cost, multiple(coefficient.raw, multiplier));
-        }
-    }
-}
-
 // Takes a multiple of `image` off `values`.
 fn subtract_multiple(values: &mut [Fixed], image: &[Fixed], step: Fixed) {
     for (value, entry) in values.iter_mut().zip(image.iter()) {
@@ -380,6 +404,15 @@ fn subtract_multiple(values: &mut [Fixed], image: &[Fixed], step: Fixed) {
 fn set_status(status: &mut [Status], item: usize, new: Status) {
     if let Some(slot) = status.get_mut(item) {
         *slot = new;
+    }
+}
+
+// The end at which an item does not stand.
+fn other_end(form: &Form<'_>, status: &[Status], item: usize) -> (Status, Fixed) {
+    if ratio::is_at_low(status, item) {
+        (Status::AtHigh, form.high(item))
+    } else {
+        (Status::AtLow, form.low(item))
     }
 }
 
