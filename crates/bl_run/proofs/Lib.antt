@@ -3,3 +3,4 @@ mod Splitting
 mod Making
 mod Units
 mod Replies
+mod Ends

@@ -1,7 +1,9 @@
 -- What a run did: each status has its cause.
-use Rattle.std.specs.Prelude.{◌≡◌, ◌⊎◌, ◌+◌, ◌*◌, ◌^◌, ◌++◌, ℕ, pos, Bool, List, [], Some, None}
-use Rattle.std.specs.Prelude.{Ok, Err, true, false, is_some, map, reverse, string_bytes}
+use Rattle.std.specs.Prelude.{◌≡◌, ◌≢◌, ◌<◌, ◌≤◌, ◌⊎◌, ◌+◌, ◌*◌, ◌^◌, ◌++◌, ℕ, pos, Bool, List}
+use Rattle.std.specs.Prelude.{[], Some, None, Ok, Err, true, false, is_some, map, reverse}
+use Rattle.std.specs.Prelude.{string_bytes}
 use Rattle.std.specs.declared.option.Option.{Option}
+use Rattle.std.specs.declared.result.Result.{Result}
 use Rattle.std.specs.declared.alloc.Global.{Global}
 use Rattle.std.specs.declared.string.String.{String}
 use Rattle.std.specs.Io.KnownBytes.{Appends}
@@ -18,6 +20,8 @@ use Rattle.bl_journal.specs.Pieces.{held_of}
 use Rattle.bl_journal.specs.Results.{answer_of, IsTrueFor}
 use Rattle.bl_log.specs.Log.{text_of}
 use Rattle.bl_run.specs.declared.top.Answered.{Answered}
+use Rattle.bl_run.specs.declared.top.Asked.{Asked}
+use Rattle.bl_run.specs.declared.top.Ended.{Ended}
 use Rattle.bl_run.specs.declared.top.Reply.{Reply}
 use Rattle.bl_run.specs.declared.top.Reply.TheVariants.{Answer, Model as ModelText}
 use Rattle.bl_run.specs.declared.top.Stop.{Stop}
@@ -31,7 +35,7 @@ use Rattle.bl_words.specs.declared.wish.Wish.{Wish}
 use Rattle.bl_search.specs.Places.{SplitsAt}
 use Rattle.bl_search.specs.Searches.{IsEndedHistory}
 use Rattle.bl_run.specs.Splitting.{IsSplitBy}
-use Rattle.bl_report.specs.Texts.{verdict_text, held_line, model_line, long_line}
+use Rattle.bl_report.specs.Texts.{fault_line, verdict_text, held_line, model_line, long_line}
 use Rattle.bl_write.specs.Written.{written}
 
 -- the words ask for this; `alone` is true for the program in which seat 0 searches alone
@@ -222,3 +226,156 @@ IsEarly Memory = Unit {0}
 abbrev pub words_status : WordsFault → ℕ
 words_status Refused = 2
 words_status NoMemory = 6
+
+-- what the outside tells: the bytes that the source has still to give and those that the sink
+-- has taken, and how often each has failed
+pub record Outside : Type 0 where
+  pub left : Option (List ℕ)
+  pub failed_reads : ℕ
+  pub kept : Option (List ℕ)
+  pub failed_writes : ℕ
+
+abbrev pub outside : Option (List ℕ) → ℕ → Option (List ℕ) → ℕ → Outside
+outside left failed_reads kept failed_writes = record {
+  left = left;
+  failed_reads = failed_reads;
+  kept = kept;
+  failed_writes = failed_writes;
+}
+
+-- no more was taken from the source than a model may have, and it didn't fail
+abbrev pub ReadsModel : Outside → Outside → Type 0
+ReadsModel old new = ReadsWithin old.left new.left old.failed_reads new.failed_reads MOST_BYTES
+
+-- the answer of a search that was decided was written, or the text of the problem
+abbrev pub WritesReply : Bool → List (String Global) → Ended → Outside → Outside → Type 0
+WritesReply alone words ended old new =
+    WritesAnswer alone words false ended.journal old.left new.left old.kept new.kept
+    ⊎ WritesModel alone words ended.journal old.left new.left old.kept new.kept
+
+-- a prefix of what is to be written was written
+abbrev pub WritesReplyPart : Bool → List (String Global) → Ended → Outside → Outside → Type 0
+WritesReplyPart alone words ended old new =
+    WritesPart alone words ended.journal old.left new.left old.kept new.kept
+    ⊎ WritesModelPart alone words ended.journal old.left new.left old.kept new.kept
+
+-- What a run promises: each status has its cause, and what was written.
+pub record HasRun (alone : Bool) (words : List (String Global)) (ended : Ended)
+    (old new : Outside) : Type 0 where
+  -- 0: the search has ended with no live node, the written bytes are its final answer, with
+  -- `--log` behind its log, and nothing failed. Here and at 1 and 5 no node may be freed, and
+  -- each seat has stored its nodes anew in time. With `--write` nothing is searched, and the
+  -- written bytes are the text of the problem.
+  pub decided : ended.status ≡ 0 → WritesReply alone words ended old new
+  -- 1: the budget is spent and a live node waits; the written bytes are the bound and the best
+  -- point found, with `--log` behind the log, and nothing failed.
+  pub limited : ended.status ≡ 1
+      → WritesAnswer alone words true ended.journal old.left new.left old.kept new.kept
+  pub no_fault : ended.status ≤ 1 → new.failed_writes ≡ old.failed_writes
+  -- But for 3 and 4 the source didn't fail, and no more was taken than may be read.
+  pub within : ended.status ≢ 3 → ended.status ≢ 4 → ReadsModel old new
+  -- 2: exactly where the words mean nothing, but for 6.
+  pub meant : ended.status ≡ 2 → MeanNothing alone words
+  pub refused : MeanNothing alone words → (ended.status ≡ 2) ⊎ (ended.status ≡ 6)
+  -- 3: what was read is too long or has a fault, and the line tells it. At 0, 1 and 5 it means a
+  -- problem, so 3 comes exactly there, but for 4 and 6.
+  pub model : ended.status ≡ 3
+      → TellsModel old.left new.left old.kept new.kept old.failed_writes new.failed_writes
+  -- 4: the source failed.
+  pub read : ended.status ≡ 4 → Rose old.failed_reads new.failed_reads
+  -- Where a problem is to be made, 3 and 4 do not come.
+  pub made : AskToMake alone words → (ended.status ≢ 3) × (ended.status ≢ 4)
+  -- 5: the sink failed after the search had ended, and a prefix of the answer stands; with
+  -- `--write`, of the problem's text.
+  pub write : ended.status ≡ 5 → Rose old.failed_writes new.failed_writes
+  pub part : ended.status ≡ 5 → WritesReplyPart alone words ended old new
+  -- 2, 4 and 6, want of memory: a prefix of the fault's line stands, and all of it unless the
+  -- sink failed.
+  pub line : 1 < ended.status → ended.status ≢ 3 → ended.status ≢ 5
+      → WritesLine old.kept new.kept old.failed_writes new.failed_writes (fault_line ended.status)
+  pub no_journal : 1 < ended.status → ended.status ≢ 5 → ended.journal ≡ None
+  pub others : ended.status ≤ 6
+
+-- the words are accepted, and this is what they ask for and the problem that is given
+pub record IsAsked (alone : Bool) (words : List (String Global)) (left left' : Option (List ℕ))
+    (faults faults' : ℕ) (asked : Asked) : Type 0 where
+  pub meant : AskFor alone words asked.wish
+  pub accepted : MeanNothing alone words → ⊥
+  pub given : IsGiven asked.wish.generate left left' asked.problem
+  pub within : ReadsWithin left left' faults faults' MOST_BYTES
+
+-- there is nothing to write, and this is the cause
+pub record HasStopped (alone : Bool) (words : List (String Global)) (left left' : Option (List ℕ))
+    (faults faults' : ℕ) (stop : Stop) : Type 0 where
+  pub meant : stop ≡ Words → MeanNothing alone words
+  pub refused : MeanNothing alone words → IsEarly stop
+  pub made : AskToMake alone words → IsEarly stop
+  pub cause : HasReason left left' faults faults' stop
+
+-- the words are accepted, and this is to be written
+pub record HasReply (alone : Bool) (words : List (String Global)) (left left' : Option (List ℕ))
+    (faults faults' : ℕ) (reply : Reply) : Type 0 where
+  pub text : IsReply alone words left left' reply
+  pub accepted : MeanNothing alone words → ⊥
+  pub within : ReadsWithin left left' faults faults' MOST_BYTES
+
+-- what is to be written, or the cause for which there is nothing
+abbrev pub IsReplied : Bool → List (String Global) → Option (List ℕ) → Option (List ℕ) → ℕ → ℕ
+    → Result Reply Stop → Type 0
+IsReplied alone words left left' faults faults' (Ok reply) =
+    HasReply alone words left left' faults faults' reply
+IsReplied alone words left left' faults faults' (Err stop) =
+    HasStopped alone words left left' faults faults' stop
+
+-- an end with this status and this line, and nothing was searched
+pub record EndsWithLine (status : ℕ) (line : List ℕ) (ended : Ended) (kept kept' : Option (List ℕ))
+    (faults faults' : ℕ) : Type 0 where
+  pub status_is : ended.status ≡ status
+  pub no_journal : ended.journal ≡ None
+  pub written : WritesLine kept kept' faults faults' line
+
+-- an end that tells why there is nothing to write; a file's fault, or want of memory for its line
+abbrev pub EndsByStop : Stop → Ended → Option (List ℕ) → Option (List ℕ) → ℕ → ℕ → Type 0
+EndsByStop Words ended kept kept' faults faults' =
+    EndsWithLine 2 (fault_line 2) ended kept kept' faults faults'
+EndsByStop TooLong ended kept kept' faults faults' =
+    EndsWithLine 3 long_line ended kept kept' faults faults'
+EndsByStop (Model line what) ended kept kept' faults faults' =
+    EndsWithLine 3 (model_line (record { line = line; what = what })) ended kept kept' faults
+    faults' ⊎ EndsWithLine 6 (fault_line 6) ended kept kept' faults faults'
+EndsByStop Read ended kept kept' faults faults' =
+    EndsWithLine 4 (fault_line 4) ended kept kept' faults faults'
+EndsByStop Memory ended kept kept' faults faults' =
+    EndsWithLine 6 (fault_line 6) ended kept kept' faults faults'
+
+-- an end with the answer of a search: all of it, or a prefix where the sink failed
+pub record EndsWithAnswer (answered : Answered) (ended : Ended) (kept kept' : Option (List ℕ))
+    (faults faults' : ℕ) : Type 0 where
+  pub journal : ended.journal ≡ Some answered.journal
+  pub decided : ended.status ≡ 0 → answered.limited ≡ false
+  pub limited : ended.status ≡ 1 → answered.limited ≡ true
+  pub whole : ended.status ≤ 1 → Appends kept kept' answered.text.items
+  pub no_fault : ended.status ≤ 1 → faults' ≡ faults
+  pub part : ended.status ≡ 5 → AppendsPrefix kept kept' answered.text.items
+  pub cause : ended.status ≡ 5 → Rose faults faults'
+  pub others : (ended.status ≤ 1) ⊎ (ended.status ≡ 5)
+
+-- an end with the text of a problem: all of it, or a prefix where the sink failed
+pub record EndsWithModel (text : List ℕ) (ended : Ended) (kept kept' : Option (List ℕ))
+    (faults faults' : ℕ) : Type 0 where
+  pub no_journal : ended.journal ≡ None
+  pub status : (ended.status ≡ 0) ⊎ (ended.status ≡ 5)
+  pub whole : ended.status ≡ 0 → Appends kept kept' text
+  pub no_fault : ended.status ≡ 0 → faults' ≡ faults
+  pub part : ended.status ≡ 5 → AppendsPrefix kept kept' text
+  pub cause : ended.status ≡ 5 → Rose faults faults'
+
+-- an end with what is to be written
+abbrev pub EndsByReply : Reply → Ended → Option (List ℕ) → Option (List ℕ) → ℕ → ℕ → Type 0
+EndsByReply (Answer answered) = EndsWithAnswer answered
+EndsByReply (ModelText text) = EndsWithModel text.items
+
+-- an end with what is to be written, or that tells why there is nothing
+abbrev pub EndsAs : Result Reply Stop → Ended → Option (List ℕ) → Option (List ℕ) → ℕ → ℕ → Type 0
+EndsAs (Ok reply) = EndsByReply reply
+EndsAs (Err stop) = EndsByStop stop

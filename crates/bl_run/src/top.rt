@@ -14,11 +14,10 @@ ghost use Rattle.bl_run.specs.Splitting.{IsSplitBy};
 ghost use Rattle.bl_search.specs.Places.{SplitsAt};
 ghost use Rattle.bl_search.specs.Searches.{IsSearched};
 ghost use Rattle.bl_tree.specs.Views.{past_of};
-ghost use Rattle.bl_run.specs.Runs.{AskFor, AskToMake, IsEarly, IsGiven, IsModelOf, IsRead};
-ghost use Rattle.bl_run.specs.Runs.{IsReply, IsSolved, HasReason, MeanNothing, log_lines};
-ghost use Rattle.bl_run.specs.Runs.{settings_for, TellsModel, WritesAnswer, WritesModel};
-ghost use Rattle.bl_run.specs.Runs.{WritesModelPart, WritesPart, WritesLine, shows_columns};
-ghost use Rattle.bl_run.specs.Runs.{words_status};
+ghost use Rattle.bl_run.specs.Runs.{AskFor, AskToMake, EndsAs, EndsByReply, EndsByStop, HasReason};
+ghost use Rattle.bl_run.specs.Runs.{HasRun, HasStopped, IsAsked, IsEarly, IsGiven, IsModelOf};
+ghost use Rattle.bl_run.specs.Runs.{IsRead, IsReplied, IsSolved, MeanNothing, WritesLine};
+ghost use Rattle.bl_run.specs.Runs.{log_lines, outside, settings_for, shows_columns, words_status};
 
 use crate::searching::{search_many, search_one};
 use bl_gen::make;
@@ -58,124 +57,70 @@ pub fn run<R: Threads + Wait + Sync, S: Source, K: Sink, G: Gate>(
     sink: &mut K,
     gate: &G,
 ) -> Ended
-    // 0: the search has ended with no live node, the written bytes are its final answer, with
-    // `--log` behind its log, and nothing failed. Here and at 1 and 5 no node may be freed, and
-    // each seat has stored its nodes anew in time. With `--write` nothing is searched, and the
-    // written bytes are the text of the problem.
-    ensures decided { result.status ≡ 0 → WritesAnswer false words.now false result.journal
-        (S.left source.old) (S.left source.new) (K.kept sink.old) (K.kept sink.new)
-        ⊎ WritesModel false words.now result.journal (S.left source.old) (S.left source.new)
-        (K.kept sink.old) (K.kept sink.new) }
-    // 1: the budget is spent and a live node waits; the written bytes are the bound and the best
-    // point found, with `--log` behind the log, and nothing failed.
-    ensures limited { result.status ≡ 1 → WritesAnswer false words.now true result.journal
-        (S.left source.old) (S.left source.new) (K.kept sink.old) (K.kept sink.new) }
-    ensures no_fault { result.status ≤ 1 → K.faults sink.new ≡ K.faults sink.old }
-    // But for 3 and 4 the source didn't fail, and no more was taken than may be read.
-    ensures within { result.status ≢ 3 → result.status ≢ 4
-        → ReadsWithin (S.left source.old) (S.left source.new) (S.faults source.old)
-        (S.faults source.new) MOST_BYTES }
-    // 2: exactly where the words mean nothing, but for 6. The source is then untouched.
-    ensures words { result.status ≡ 2 → MeanNothing false words.now }
-    ensures refused { MeanNothing false words.now → (result.status ≡ 2) ⊎ (result.status ≡ 6) }
+    // Each status has its cause, and what was written: `HasRun` tells it status by status.
+    ensures ran { HasRun false words.now result
+        (outside (S.left source.old) (S.faults source.old) (K.kept sink.old) (K.faults sink.old))
+        (outside (S.left source.new) (S.faults source.new) (K.kept sink.new) (K.faults sink.new)) }
+    // The source is untouched where the words mean nothing, and where a problem is to be made.
     ensures unread { MeanNothing false words.now → source.new ≡ source.old }
-    // Where a problem is to be made, the source is untouched at every status, and 3 and 4 do not
-    // come.
-    ensures made { AskToMake false words.now → (source.new ≡ source.old) × (result.status ≢ 3)
-        × (result.status ≢ 4) }
-    // 3: what was read is too long or has a fault, and the line tells it. At 0, 1 and 5 it means
-    // a problem, so 3 comes exactly there, but for 4 and 6.
-    ensures model { result.status ≡ 3 → TellsModel (S.left source.old) (S.left source.new)
-        (K.kept sink.old) (K.kept sink.new) (K.faults sink.old) (K.faults sink.new) }
-    // 4: the source failed.
-    ensures read { result.status ≡ 4 → Rose (S.faults source.old) (S.faults source.new) }
-    // 5: the sink failed after the search had ended, and a prefix of the answer stands; with
-    // `--write`, of the problem's text.
-    ensures write { result.status ≡ 5 → Rose (K.faults sink.old) (K.faults sink.new) }
-    ensures part { result.status ≡ 5 → WritesPart false words.now result.journal
-        (S.left source.old) (S.left source.new) (K.kept sink.old) (K.kept sink.new)
-        ⊎ WritesModelPart false words.now result.journal (S.left source.old) (S.left source.new)
-        (K.kept sink.old) (K.kept sink.new) }
-    // 2, 4 and 6, want of memory: a prefix of the fault's line stands, and all of it unless the
-    // sink failed.
-    ensures line { 1 < result.status → result.status ≢ 3 → result.status ≢ 5
-        → WritesLine (K.kept sink.old) (K.kept sink.new) (K.faults sink.old) (K.faults sink.new)
-        (fault_line result.status) }
-    ensures no_journal { 1 < result.status → result.status ≢ 5 → result.journal ≡ None }
-    ensures others { result.status ≤ 6 }
+    ensures untouched { AskToMake false words.now → source.new ≡ source.old }
 {
-    match answer_many(rt, alloc, words, source, gate) {
-        Ok(Reply::Answer(answered)) => answer_written(sink, answered),
-        Ok(Reply::Model(text)) => model_written(sink, &text),
-        Err(Stop::Words) => stopped(sink, 2, b"fault words\n"),
-        Err(Stop::TooLong) => stopped(sink, 3, b"fault model long\n"),
-        Err(Stop::Model { line, what }) => refused(alloc, sink, line, what),
-        Err(Stop::Read) => stopped(sink, 4, b"fault read\n"),
-        Err(Stop::Memory) => stopped(sink, 6, b"fault memory\n"),
-    }
+    let reply = answer_many(rt, alloc, words, source, gate);
+    end(alloc, sink, reply)
 }
 
-/// Does all that the program of one thread does.
+/// Does all that the program of one thread does: seat 0 searches the tree alone.
 pub fn run_one<S: Source, K: Sink>(
     alloc: Global,
     words: &[String],
     source: &mut S,
     sink: &mut K,
 ) -> Ended
-    // 0: the search has ended with no live node, the written bytes are its final answer, with
-    // `--log` behind its log, and nothing failed. Here and at 1 and 5 no node may be freed, and
-    // seat 0 has stored its nodes anew in time. With `--write` nothing is searched, and the
-    // written bytes are the text of the problem.
-    ensures decided { result.status ≡ 0 → WritesAnswer true words.now false result.journal
-        (S.left source.old) (S.left source.new) (K.kept sink.old) (K.kept sink.new)
-        ⊎ WritesModel true words.now result.journal (S.left source.old) (S.left source.new)
-        (K.kept sink.old) (K.kept sink.new) }
-    // 1: the budget is spent and a live node waits; the written bytes are the bound and the best
-    // point found, with `--log` behind the log, and nothing failed.
-    ensures limited { result.status ≡ 1 → WritesAnswer true words.now true result.journal
-        (S.left source.old) (S.left source.new) (K.kept sink.old) (K.kept sink.new) }
-    ensures no_fault { result.status ≤ 1 → K.faults sink.new ≡ K.faults sink.old }
-    // But for 3 and 4 the source didn't fail, and no more was taken than may be read.
-    ensures within { result.status ≢ 3 → result.status ≢ 4
-        → ReadsWithin (S.left source.old) (S.left source.new) (S.faults source.old)
-        (S.faults source.new) MOST_BYTES }
-    // 2: exactly where the words mean nothing, but for 6. The source is then untouched.
-    ensures words { result.status ≡ 2 → MeanNothing true words.now }
-    ensures refused { MeanNothing true words.now → (result.status ≡ 2) ⊎ (result.status ≡ 6) }
+    // Each status has its cause, and what was written: `HasRun` tells it status by status.
+    ensures ran { HasRun true words.now result
+        (outside (S.left source.old) (S.faults source.old) (K.kept sink.old) (K.faults sink.old))
+        (outside (S.left source.new) (S.faults source.new) (K.kept sink.new) (K.faults sink.new)) }
+    // The source is untouched where the words mean nothing, and where a problem is to be made.
     ensures unread { MeanNothing true words.now → source.new ≡ source.old }
-    // Where a problem is to be made, the source is untouched at every status, and 3 and 4 do not
-    // come.
-    ensures made { AskToMake true words.now → (source.new ≡ source.old) × (result.status ≢ 3)
-        × (result.status ≢ 4) }
-    // 3: what was read is too long or has a fault, and the line tells it. At 0, 1 and 5 it means
-    // a problem, so 3 comes exactly there, but for 4 and 6.
-    ensures model { result.status ≡ 3 → TellsModel (S.left source.old) (S.left source.new)
-        (K.kept sink.old) (K.kept sink.new) (K.faults sink.old) (K.faults sink.new) }
-    // 4: the source failed.
-    ensures read { result.status ≡ 4 → Rose (S.faults source.old) (S.faults source.new) }
-    // 5: the sink failed after the search had ended, and a prefix of the answer stands; with
-    // `--write`, of the problem's text.
-    ensures write { result.status ≡ 5 → Rose (K.faults sink.old) (K.faults sink.new) }
-    ensures part { result.status ≡ 5 → WritesPart true words.now result.journal
-        (S.left source.old) (S.left source.new) (K.kept sink.old) (K.kept sink.new)
-        ⊎ WritesModelPart true words.now result.journal (S.left source.old) (S.left source.new)
-        (K.kept sink.old) (K.kept sink.new) }
-    // 2, 4 and 6, want of memory: a prefix of the fault's line stands, and all of it unless the
-    // sink failed.
-    ensures line { 1 < result.status → result.status ≢ 3 → result.status ≢ 5
-        → WritesLine (K.kept sink.old) (K.kept sink.new) (K.faults sink.old) (K.faults sink.new)
-        (fault_line result.status) }
-    ensures no_journal { 1 < result.status → result.status ≢ 5 → result.journal ≡ None }
-    ensures others { result.status ≤ 6 }
+    ensures untouched { AskToMake true words.now → source.new ≡ source.old }
 {
-    match answer_one(alloc, words, source) {
-        Ok(Reply::Answer(answered)) => answer_written(sink, answered),
-        Ok(Reply::Model(text)) => model_written(sink, &text),
-        Err(Stop::Words) => stopped(sink, 2, b"fault words\n"),
-        Err(Stop::TooLong) => stopped(sink, 3, b"fault model long\n"),
-        Err(Stop::Model { line, what }) => refused(alloc, sink, line, what),
-        Err(Stop::Read) => stopped(sink, 4, b"fault read\n"),
-        Err(Stop::Memory) => stopped(sink, 6, b"fault memory\n"),
+    let reply = answer_one(alloc, words, source);
+    end(alloc, sink, reply)
+}
+
+// Ends a run with what is to be written, or with the line that tells why there is nothing.
+fn end<K: Sink>(alloc: Global, sink: &mut K, reply: Result<Reply, Stop>) -> Ended
+    ensures { EndsAs reply result (K.kept sink.old) (K.kept sink.new) (K.faults sink.old)
+        (K.faults sink.new) }
+{
+    match reply {
+        Ok(reply) => end_by_reply(sink, reply),
+        Err(stop) => end_by_stop(alloc, sink, stop),
+    }
+}
+
+// Ends a run with what is to be written.
+fn end_by_reply<K: Sink>(sink: &mut K, reply: Reply) -> Ended
+    ensures { EndsByReply reply result (K.kept sink.old) (K.kept sink.new) (K.faults sink.old)
+        (K.faults sink.new) }
+{
+    match reply {
+        Reply::Answer(answered) => answer_written(sink, answered),
+        Reply::Model(text) => model_written(sink, &text),
+    }
+}
+
+// Ends a run with the line that tells why there is nothing to write.
+fn end_by_stop<K: Sink>(alloc: Global, sink: &mut K, stop: Stop) -> Ended
+    ensures { EndsByStop stop result (K.kept sink.old) (K.kept sink.new) (K.faults sink.old)
+        (K.faults sink.new) }
+{
+    match stop {
+        Stop::Words => stopped(sink, 2, b"fault words\n"),
+        Stop::TooLong => stopped(sink, 3, b"fault model long\n"),
+        Stop::Model { line, what } => refused(alloc, sink, line, what),
+        Stop::Read => stopped(sink, 4, b"fault read\n"),
+        Stop::Memory => stopped(sink, 6, b"fault memory\n"),
     }
 }
 
@@ -392,24 +337,41 @@ fn wish_of(alloc: Global, words: &[String], alone: bool) -> Result<Wish, Stop>
     }
 }
 
-// The answer of a search by seat 0 to what the words ask for, or the text of the problem.
-fn answer_one<S: Source>(alloc: Global, words: &[String], source: &mut S) -> Result<Reply, Stop>
-    ensures text { IfOk result (λ reply. IsReply true words.now (S.left source.old)
-        (S.left source.new) reply) }
-    ensures within { OnOk result (ReadsWithin (S.left source.old) (S.left source.new)
-        (S.faults source.old) (S.faults source.new) MOST_BYTES) }
-    ensures words { IfErr result (λ e. e ≡ Stop.Words → MeanNothing true words.now) }
-    ensures accepted { OnOk result (MeanNothing true words.now → ⊥) }
-    ensures refused { IfErr result (λ e. MeanNothing true words.now → IsEarly e) }
-    ensures unread { MeanNothing true words.now → source.new ≡ source.old }
-    ensures untouched { AskToMake true words.now → source.new ≡ source.old }
-    ensures made { IfErr result (λ e. AskToMake true words.now → IsEarly e) }
-    ensures cause { IfErr result (HasReason (S.left source.old) (S.left source.new)
+// What the words ask for, and the problem that it is asked of.
+struct Asked {
+    wish: Wish,
+    problem: Problem,
+}
+
+// Reads the words, and then reads or makes the problem.
+fn ask<S: Source>(
+    alloc: Global,
+    words: &[String],
+    alone: bool,
+    source: &mut S,
+) -> Result<Asked, Stop>
+    ensures asked { IfOk result (IsAsked alone words.now (S.left source.old) (S.left source.new)
         (S.faults source.old) (S.faults source.new)) }
+    ensures ranges { IfOk result (λ asked. IsWithinRanges asked.wish) }
+    ensures stopped { IfErr result (HasStopped alone words.now (S.left source.old)
+        (S.left source.new) (S.faults source.old) (S.faults source.new)) }
+    ensures unread { MeanNothing alone words.now → source.new ≡ source.old }
+    ensures untouched { AskToMake alone words.now → source.new ≡ source.old }
 {
     words_mean_one_wish();
-    let wish = wish_of(alloc, words, true)?;
+    let wish = wish_of(alloc, words, alone)?;
     let problem = given_problem(alloc, wish.generate, source)?;
+    Ok(Asked { wish, problem })
+}
+
+// The answer of a search by seat 0 to what the words ask for, or the text of the problem.
+fn answer_one<S: Source>(alloc: Global, words: &[String], source: &mut S) -> Result<Reply, Stop>
+    ensures replied { IsReplied true words.now (S.left source.old) (S.left source.new)
+        (S.faults source.old) (S.faults source.new) result }
+    ensures unread { MeanNothing true words.now → source.new ≡ source.old }
+    ensures untouched { AskToMake true words.now → source.new ≡ source.old }
+{
+    let Asked { wish, problem } = ask(alloc, words, true, source)?;
     if wish.write {
         return model_text(alloc, &problem);
     }
@@ -427,22 +389,12 @@ fn answer_many<R: Threads + Wait + Sync, S: Source, G: Gate>(
     source: &mut S,
     gate: &G,
 ) -> Result<Reply, Stop>
-    ensures text { IfOk result (λ reply. IsReply false words.now (S.left source.old)
-        (S.left source.new) reply) }
-    ensures within { OnOk result (ReadsWithin (S.left source.old) (S.left source.new)
-        (S.faults source.old) (S.faults source.new) MOST_BYTES) }
-    ensures words { IfErr result (λ e. e ≡ Stop.Words → MeanNothing false words.now) }
-    ensures accepted { OnOk result (MeanNothing false words.now → ⊥) }
-    ensures refused { IfErr result (λ e. MeanNothing false words.now → IsEarly e) }
+    ensures replied { IsReplied false words.now (S.left source.old) (S.left source.new)
+        (S.faults source.old) (S.faults source.new) result }
     ensures unread { MeanNothing false words.now → source.new ≡ source.old }
     ensures untouched { AskToMake false words.now → source.new ≡ source.old }
-    ensures made { IfErr result (λ e. AskToMake false words.now → IsEarly e) }
-    ensures cause { IfErr result (HasReason (S.left source.old) (S.left source.new)
-        (S.faults source.old) (S.faults source.new)) }
 {
-    words_mean_one_wish();
-    let wish = wish_of(alloc, words, false)?;
-    let problem = given_problem(alloc, wish.generate, source)?;
+    let Asked { wish, problem } = ask(alloc, words, false, source)?;
     if wish.write {
         return model_text(alloc, &problem);
     }

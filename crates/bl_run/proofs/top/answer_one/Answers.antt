@@ -1,6 +1,8 @@
-use Rattle.bl_run.proofs.Replies.{any_ok}
+use Rattle.std.proofs.Common.{true}
+use Rattle.bl_run.proofs.Replies.{model_replied}
 use Rattle.bl_run.proofs.top.answer_one.Goals as goal
 
-pub returns-then-wish-clause-accepted : goal.returns-then-wish-clause-accepted
-returns-then-wish-clause-accepted g c =
-    any_ok c.model_text.result _ (λ nothing. nothing c.in_ok-wish.wish c.in_ok-wish.ensures.meant)
+pub returns-then-wish-clause-replied : goal.returns-then-wish-clause-replied
+returns-then-wish-clause-replied g c =
+    model_replied true c.args.words.now _ _ _ _ c.in_ok-wish.field-0 c.in_ok-wish.ensures.asked
+    c.model_text.result c.if-wish.true c.model_text.ensures.text c.model_text.ensures.memory
